@@ -1,5 +1,6 @@
 -- Ranges and records, one at a time.
 use mathlib.Core.Path.{_≡_, refl, sym, ap, subst, _∙_}
+use mathlib.Core.Logic.{_⊎_, ⊎-elim}
 use mathlib.Core.List.{List, [], _∷_, _++_, map}
 use mathlib.Core.Bool.{Bool, true, false, cond, _&&_}
 use Prim.Native.Nat.{ℕ, zero, suc, _+_, _*_, _-_, _/_, _%_, _≤_, _<_}
@@ -12,7 +13,7 @@ use Rattle.std.specs.declared.option.Option.{Option}
 use Rattle.std.specs.declared.option.Option.the-variants.{Some, None}
 use Rattle.std.proofs.shelf.Lists.{at-drop-more, at-drop-all, drop-more}
 use Rattle.std.proofs.shelf.Counted.{getD-map-counting, length-map-counting}
-use Rattle.std.proofs.shelf.Tests.{cond-true, cond-false, false≢true, and-from, and-parts, le-leb, leb-true, eq-eqb, eqb-true, lt-ltb, ltb-true}
+use Rattle.std.proofs.shelf.Tests.{cond-true, cond-false, false≢true, and-from, and-parts, and-left, and-right, le-leb, lt-leb, leb-true, eq-eqb, eqb-true, lt-ltb, ltb-true}
 use Rattle.fields.proofs.Faults.{passed, stopped, both-pass, check-pass, pass, last-fault}
 use Rattle.std.specs.declared.result.Result.the-variants.{Ok, Err}
 use Rattle.ternary.specs.declared.refusal.Refusal.the-variants.{OutputTooShort}
@@ -115,18 +116,46 @@ file-records file room version size some few start =
     ∙ (pass (ltb (word file 7) (word file 5)) 7 _ (lt-ltb (word file 7) (word file 5) start)
     ∙ last-fault _))))
 
--- a file with no fault has records with no fault
-pub accepted-records : (file : List ℕ) → fault file ≡ None → isSome (recordsFault (word file 5) (word file 5) 9 (drop 9 file)) ≡ false
-accepted-records file none =
+-- what a file with no fault keeps
+pub record Accepted (file : List ℕ) : Type 0 where
+  pub room : 9 ≤ length file
+  pub version : getD file 0 0 ≡ 1
+  pub size : long file 1 ≡ length file - 5
+  pub some : 1 ≤ word file 5
+  pub few : word file 5 ≤ 512
+  pub start : word file 7 < word file 5
+  pub records : isSome (recordsFault (word file 5) (word file 5) 9 (drop 9 file)) ≡ false
+
+pub accepted-parts : (file : List ℕ) → fault file ≡ None → Accepted file
+accepted-parts file none =
     let a = both-pass (check (leb 9 (length file)) (length file)) (fieldsFault file) (ap isSome none) in
     let b = both-pass (check (eqb (getD file 0 0) 1) 0) _ (a .1) in
     let c = both-pass (check (eqb (long file 1) (length file - 5)) 1) _ (b .1) in
     let d = both-pass (check (leb 1 (word file 5) && leb (word file 5) 512) 5) _ (c .1) in
     let e = both-pass (check (ltb (word file 7) (word file 5)) 7) _ (d .1) in
-    both-pass (recordsFault (word file 5) (word file 5) 9 (drop 9 file)) None (e .1) .0
+    let limits = and-parts (leb 1 (word file 5)) (leb (word file 5) 512) (check-pass _ _ (d .0)) in
+    record {
+      room = leb-true 9 (length file) (check-pass _ _ (a .0));
+      version = eqb-true (getD file 0 0) 1 (check-pass _ _ (b .0));
+      size = eqb-true (long file 1) (length file - 5) (check-pass _ _ (c .0));
+      some = leb-true 1 (word file 5) (limits .0);
+      few = leb-true (word file 5) 512 (limits .1);
+      start = ltb-true (word file 7) (word file 5) (check-pass _ _ (e .0));
+      records = both-pass (recordsFault (word file 5) (word file 5) 9 (drop 9 file)) None (e .1) .0;
+    }
 
 -- a file with no fault, and room for its states, is answered by its header
 pub read-ok : (file : List ℕ) (rows marks : ℕ) → fault file ≡ None → 256 * word file 5 ≤ rows → word file 5 ≤ marks → readAnswer file rows marks ≡ Ok (headerOf file)
 read-ok file rows marks none r m =
     ap (λ (f : Option ℕ). refuseOr f (cond (roomFor (word file 5) rows marks) (Ok (headerOf file)) (Err OutputTooShort))) none
     ∙ cond-true _ _ _ (and-from (leb (256 * word file 5) rows) (leb (word file 5) marks) (le-leb (256 * word file 5) rows r) (le-leb (word file 5) marks m))
+
+-- a file with no fault, and too few places in a buffer, is refused
+pub read-short : (file : List ℕ) (rows marks : ℕ) → fault file ≡ None → (rows < 256 * word file 5) ⊎ (marks < word file 5) → readAnswer file rows marks ≡ Err OutputTooShort
+read-short file rows marks none few =
+    ap (λ (f : Option ℕ). refuseOr f (cond (roomFor (word file 5) rows marks) (Ok (headerOf file)) (Err OutputTooShort))) none
+    ∙ cond-false _ _ _
+    (⊎-elim
+    (λ (r : rows < 256 * word file 5). and-left (leb (256 * word file 5) rows) (leb (word file 5) marks) (lt-leb (256 * word file 5) rows r))
+    (λ (m : marks < word file 5). and-right (leb (256 * word file 5) rows) (leb (word file 5) marks) (lt-leb (word file 5) marks m))
+    few)

@@ -1,3 +1,4 @@
 pub mod File
 pub mod Limits
 pub mod Runs
+pub mod Laws

@@ -1,6 +1,7 @@
 ghost use mathlib.Core.Path.{_≡_};
 ghost use lib.ListN.{length};
 ghost use Rattle.automaton.specs.File.{decode, headerOf, rows, classes as classesOf, readAnswer, filled};
+ghost use Rattle.automaton.specs.Laws.{KeepsLimits, IsItsSourcesFile, GivesSourceBack, GivesAutomatonBack};
 use crate::file::faults::file_fault;
 use crate::file::fill::fill;
 use crate::words::Header;
@@ -18,6 +19,10 @@ pub fn read(file: &[u8], successors: &mut [StateNo], classes: &mut [u8]) -> Resu
     ensures answer { λ r. ⌜ r ≡ readAnswer (now (file .entry)) (length (now (successors .entry))) (length (now (classes .entry))) ⌝ }
     ensures successors { λ r. ⌜ now (successors .exit) ≡ filled r (now (successors .entry)) (rows (decode (now (file .entry)))) ⌝ }
     ensures classes { λ r. ⌜ now (classes .exit) ≡ filled r (now (classes .entry)) (classesOf (decode (now (file .entry)))) ⌝ }
+    ensures limits { λ r. ⌜ KeepsLimits (now (file .entry)) r (now (successors .entry)) (now (successors .exit)) (now (classes .entry)) (now (classes .exit)) ⌝ }
+    ensures exact { λ r. ⌜ IsItsSourcesFile (now (file .entry)) r (now (successors .entry)) (now (successors .exit)) (now (classes .entry)) (now (classes .exit)) ⌝ }
+    ensures source { λ r. ⌜ GivesSourceBack (now (file .entry)) r (now (successors .entry)) (now (successors .exit)) (now (classes .entry)) (now (classes .exit)) ⌝ }
+    ensures automaton { λ r. ⌜ GivesAutomatonBack (now (file .entry)) r (now (successors .entry)) (now (successors .exit)) (now (classes .entry)) (now (classes .exit)) ⌝ }
 {
     if let Some(at) = file_fault(file) {
         return Err(Refusal::Malformed(at));

@@ -54,18 +54,22 @@ module _ {X : Type 0} (bytes : X → List ℕ) (make : ℕ → X) (bs : List ℕ
       ∙ (sym (take-add step (step * n) (drop (base + step * a) bs))
       ∙ ap (λ (k : ℕ). take k (drop (base + step * a) bs)) (sym size))))
 
--- a byte of an item among items of one size
-module _ {X : Type 0} (bytes : X → List ℕ) (step : ℕ) (each : (x : X) → length (bytes x) ≡ step) where
-  pub byte-of-item : (before after : List ℕ) (xs : List X) (k j at : ℕ) (d : X) → k < length xs → j < step → at ≡ length before + step * k + j → getD (before ++ (joined bytes xs ++ after)) at 0 ≡ getD (bytes (getD xs k d)) j 0
-  byte-of-item before after [] k j at d h lt e = absurd (omega arith)
-  byte-of-item before after (x ∷ xs) zero j at d h lt e =
+-- an element of an item among items of one size
+module _ {X Y : Type 0} (parts : X → List Y) (step : ℕ) (each : (x : X) → length (parts x) ≡ step) (y : Y) where
+  pub part-of-item : (before after : List Y) (xs : List X) (k j at : ℕ) (d : X) → k < length xs → j < step → at ≡ length before + step * k + j → getD (before ++ (joined parts xs ++ after)) at y ≡ getD (parts (getD xs k d)) j y
+  part-of-item before after [] k j at d h lt e = absurd (omega arith)
+  part-of-item before after (x ∷ xs) zero j at d h lt e =
       let there : at ≡ length before + j = omega (arith, mul-zero step) in
-      let inside : j < length (bytes x) = omega (arith, each x) in
-      ap (λ (k : ℕ). getD (before ++ ((bytes x ++ joined bytes xs) ++ after)) k 0) there
-      ∙ (getD-append-add before ((bytes x ++ joined bytes xs) ++ after) j 0
-      ∙ (ap (λ (l : List ℕ). getD l j 0) (append-assoc (bytes x) (joined bytes xs) after)
-      ∙ getD-append-left (bytes x) (joined bytes xs ++ after) 0 j inside))
-  byte-of-item before after (x ∷ xs) (suc k) j at d h lt e =
-      let on : at ≡ length (before ++ bytes x) + step * k + j = omega (arith, length-append before (bytes x), each x, mul-suc step k) in
-      ap (λ (l : List ℕ). getD l at 0) (ap (λ (l : List ℕ). before ++ l) (append-assoc (bytes x) (joined bytes xs) after) ∙ sym (append-assoc before (bytes x) (joined bytes xs ++ after)))
-      ∙ byte-of-item (before ++ bytes x) after xs k j at d (omega arith) lt on
+      let inside : j < length (parts x) = omega (arith, each x) in
+      ap (λ (k : ℕ). getD (before ++ ((parts x ++ joined parts xs) ++ after)) k y) there
+      ∙ (getD-append-add before ((parts x ++ joined parts xs) ++ after) j y
+      ∙ (ap (λ (l : List Y). getD l j y) (append-assoc (parts x) (joined parts xs) after)
+      ∙ getD-append-left (parts x) (joined parts xs ++ after) y j inside))
+  part-of-item before after (x ∷ xs) (suc k) j at d h lt e =
+      let on : at ≡ length (before ++ parts x) + step * k + j = omega (arith, length-append before (parts x), each x, mul-suc step k) in
+      ap (λ (l : List Y). getD l at y) (ap (λ (l : List Y). before ++ l) (append-assoc (parts x) (joined parts xs) after) ∙ sym (append-assoc before (parts x) (joined parts xs ++ after)))
+      ∙ part-of-item (before ++ parts x) after xs k j at d (omega arith) lt on
+
+-- a byte of an item among items of one size
+pub byte-of-item : {X : Type 0} (bytes : X → List ℕ) (step : ℕ) (each : (x : X) → length (bytes x) ≡ step) (before after : List ℕ) (xs : List X) (k j at : ℕ) (d : X) → k < length xs → j < step → at ≡ length before + step * k + j → getD (before ++ (joined bytes xs ++ after)) at 0 ≡ getD (bytes (getD xs k d)) j 0
+byte-of-item bytes step each = part-of-item bytes step each 0
