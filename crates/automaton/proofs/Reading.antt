@@ -64,7 +64,7 @@ pub long-row : (s : StateRecord) → length (rowOf s) ≡ 256
 long-row s = length-map-counting (nextBy (s .ranges) (s .default)) 0 256
 
 -- values over the first places of a buffer are its first values
-front-written : {X : Type 0} (buffer values : List X) (n : ℕ) → length values ≡ n → take n (written buffer 0 values) ≡ values
+pub front-written : {X : Type 0} (buffer values : List X) (n : ℕ) → length values ≡ n → take n (written buffer 0 values) ≡ values
 front-written buffer values n e = take-at values (drop (0 + length values) buffer) n e
 
 -- what an answer of a header says of the file
@@ -75,13 +75,13 @@ module _ (file : List ℕ) (h : Header) (rows-room marks-room : ℕ) (a : Ok h �
   header-is : h ≡ headerOf file
   header-is = answered (fault file) (roomFor (word file 5) rows-room marks-room) (headerOf file) h a .2
 
-  count-is : length (decode file .states) ≡ h .states
+  pub count-is : length (decode file .states) ≡ h .states
   count-is = length-recordsIn (word file 5) (drop 9 file) ∙ ap (λ (x : Header). x .states) (sym header-is)
 
-length-rows : (ss : List StateRecord) (n : ℕ) → length ss ≡ n → length (joined rowOf ss) ≡ 256 * n
+pub length-rows : (ss : List StateRecord) (n : ℕ) → length ss ≡ n → length (joined rowOf ss) ≡ 256 * n
 length-rows ss n e = length-joined rowOf 256 long-row ss ∙ ap (λ (k : ℕ). 256 * k) e
 
-length-classes : (ss : List StateRecord) (n : ℕ) → length ss ≡ n → length (map classOf ss) ≡ n
+pub length-classes : (ss : List StateRecord) (n : ℕ) → length ss ≡ n → length (map classOf ss) ≡ n
 length-classes ss n e = length-map ss classOf ∙ e
 
 module _ (file : List ℕ) (small : (k : ℕ) → getD file k 0 < 256) (successors : List StateNo) (marks : List ℕ) where
