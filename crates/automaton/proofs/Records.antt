@@ -1,6 +1,5 @@
 -- Ranges and records, one at a time.
 use mathlib.Core.Path.{_≡_, refl, sym, ap, subst, _∙_}
-use mathlib.Core.Logic.{_⊎_, ⊎-elim}
 use mathlib.Core.List.{List, [], _∷_, _++_, map}
 use mathlib.Core.Bool.{Bool, true, false, cond, _&&_}
 use Prim.Native.Nat.{ℕ, zero, suc, _+_, _*_, _-_, _/_, _%_, _≤_, _<_}
@@ -13,7 +12,7 @@ use Rattle.std.specs.declared.option.Option.{Option}
 use Rattle.std.specs.declared.option.Option.the-variants.{Some, None}
 use Rattle.std.proofs.shelf.Lists.{at-drop-more, at-drop-all, drop-more}
 use Rattle.std.proofs.shelf.Counted.{getD-map-counting, length-map-counting}
-use Rattle.std.proofs.shelf.Tests.{cond-true, cond-false, false≢true, and-from, and-parts, and-left, and-right, le-leb, lt-leb, leb-true, eq-eqb, eqb-true, lt-ltb, ltb-true}
+use Rattle.std.proofs.shelf.Tests.{cond-true, cond-false, false≢true, and-from, and-parts, le-leb, leb-true, eq-eqb, eqb-true, lt-ltb, ltb-true}
 use Rattle.fields.proofs.Faults.{passed, stopped, both-pass, check-pass, pass, last-fault}
 use Rattle.std.specs.declared.result.Result.the-variants.{Ok, Err}
 use Rattle.ternary.specs.declared.refusal.Refusal.the-variants.{OutputTooShort}
@@ -149,13 +148,3 @@ pub read-ok : (file : List ℕ) (rows marks : ℕ) → fault file ≡ None → 2
 read-ok file rows marks none r m =
     ap (λ (f : Option ℕ). refuseOr f (cond (roomFor (word file 5) rows marks) (Ok (headerOf file)) (Err OutputTooShort))) none
     ∙ cond-true _ _ _ (and-from (leb (256 * word file 5) rows) (leb (word file 5) marks) (le-leb (256 * word file 5) rows r) (le-leb (word file 5) marks m))
-
--- a file with no fault, and too few places in a buffer, is refused
-pub read-short : (file : List ℕ) (rows marks : ℕ) → fault file ≡ None → (rows < 256 * word file 5) ⊎ (marks < word file 5) → readAnswer file rows marks ≡ Err OutputTooShort
-read-short file rows marks none few =
-    ap (λ (f : Option ℕ). refuseOr f (cond (roomFor (word file 5) rows marks) (Ok (headerOf file)) (Err OutputTooShort))) none
-    ∙ cond-false _ _ _
-    (⊎-elim
-    (λ (r : rows < 256 * word file 5). and-left (leb (256 * word file 5) rows) (leb (word file 5) marks) (lt-leb (256 * word file 5) rows r))
-    (λ (m : marks < word file 5). and-right (leb (256 * word file 5) rows) (leb (word file 5) marks) (lt-leb (word file 5) marks m))
-    few)

@@ -24,6 +24,15 @@ pub fn read(file: &[u8], successors: &mut [StateNo], classes: &mut [u8]) -> Resu
     ensures source { λ r. ⌜ GivesSourceBack (now (file .entry)) r (now (successors .entry)) (now (successors .exit)) (now (classes .entry)) (now (classes .exit)) ⌝ }
     ensures automaton { λ r. ⌜ GivesAutomatonBack (now (file .entry)) r (now (successors .entry)) (now (successors .exit)) (now (classes .entry)) (now (classes .exit)) ⌝ }
 {
+    read_into(file, successors, classes)
+}
+
+// Reads a file: its first fault, a buffer that is too short, or the header with both buffers filled.
+fn read_into(file: &[u8], successors: &mut [StateNo], classes: &mut [u8]) -> Result<Header, Refusal>
+    ensures answer { λ r. ⌜ r ≡ readAnswer (now (file .entry)) (length (now (successors .entry))) (length (now (classes .entry))) ⌝ }
+    ensures successors { λ r. ⌜ now (successors .exit) ≡ filled r (now (successors .entry)) (rows (decode (now (file .entry)))) ⌝ }
+    ensures classes { λ r. ⌜ now (classes .exit) ≡ filled r (now (classes .entry)) (classesOf (decode (now (file .entry)))) ⌝ }
+{
     if let Some(at) = file_fault(file) {
         return Err(Refusal::Malformed(at));
     }

@@ -14,6 +14,7 @@ const LONGEST_FILE: usize = 65_536;
 
 // The most states of an automaton that is printed, and the successors of so many.
 const MOST_STATES: usize = 64;
+
 const MOST_SUCCESSORS: usize = 16_384;
 
 // What is printed of an automaton: the number of its states, its start state, and how many states mark.

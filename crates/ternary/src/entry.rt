@@ -1,4 +1,5 @@
 ghost use mathlib.Core.Path.{_≡_};
+ghost use Prim.Native.Nat.{_≤_};
 ghost use lib.Bits.{bitAnd};
 use crate::words::StateCode;
 use crate::words::StateCodeDebug;
@@ -38,9 +39,9 @@ impl Entry {
         ensures class { λ r. ⌜ r .class ≡ class ⌝ }
     {
         Entry {
-            code_value: code_value & code_mask,
+            code_value: cleared(code_value, code_mask),
             code_mask,
-            byte_value: byte_value & byte_mask,
+            byte_value: cleared(byte_value as u16, byte_mask as u16) as u8,
             byte_mask,
             next,
             class,
@@ -88,4 +89,13 @@ impl Entry {
     {
         self.class
     }
+}
+
+// A value without its bits under a star.
+fn cleared(value: u16, mask: u16) -> u16
+    ensures value { λ r. ⌜ r ≡ bitAnd value mask ⌝ }
+    ensures clear { λ r. ⌜ bitAnd r mask ≡ r ⌝ }
+    ensures bound { λ r. ⌜ r ≤ mask ⌝ }
+{
+    value & mask
 }

@@ -17,9 +17,10 @@ loop-class-again c =
     let class : ℕ = getD classes i 0 in
     let rest : ℕ = marking (drop (i + 1) classes) in
     let here : marking (drop i classes) ≡ cond (eqb class 0) 0 1 + rest = at-drop-more marking classes i 0 (c .loop-class-test .taken) in
-    elim (c .if-class-ne0 .came)
-    [ then-class-ne0 w ↦ let one : _≡_ {A = ℕ} (cond (eqb class 0) 0 1) 1 = ap (λ (t : Bool). cond t 0 1) (ne-eqb class 0 (w .if-class-ne0 .taken)) in (omega (arith, here, one, w .count-is, c .loop-class .inv .0), omega (arith, w .count-is, c .loop-class .inv .1))
-    | else-class-ne0 w ↦ let none : _≡_ {A = ℕ} (cond (eqb class 0) 0 1) 0 = ap (λ (t : Bool). cond t 0 1) (eq-eqb class 0 (w .if-class-ne0 .left)) in (omega (arith, here, none, w .count-is, c .loop-class .inv .0), omega (arith, w .count-is, c .loop-class .inv .1)) ]
+    elim (c .if-class-ne0 .came) [
+      | then-class-ne0 w ↦ let one : _≡_ {A = ℕ} (cond (eqb class 0) 0 1) 1 = ap (λ (t : Bool). cond t 0 1) (ne-eqb class 0 (w .if-class-ne0 .taken)) in (omega (arith, here, one, w .count-is, c .loop-class .inv .0), omega (arith, w .count-is, c .loop-class .inv .1))
+      | else-class-ne0 w ↦ let none : _≡_ {A = ℕ} (cond (eqb class 0) 0 1) 0 = ap (λ (t : Bool). cond t 0 1) (eq-eqb class 0 (w .if-class-ne0 .left)) in (omega (arith, here, none, w .count-is, c .loop-class .inv .0), omega (arith, w .count-is, c .loop-class .inv .1))
+    ]
 
 pub returns : need.returns
 returns c =

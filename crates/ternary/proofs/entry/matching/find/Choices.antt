@@ -1,7 +1,7 @@
 use mathlib.Core.Path.{_≡_}
 use lib.ListN.{drop}
 use Rattle.ternary.specs.Match.{first}
-use Rattle.ternary.proofs.entry.matching.first_match.Given as given
+use Rattle.ternary.proofs.entry.matching.find.Given as given
 
 -- no entry so far matches
 abbrev pub Inv-loop-e : given.InvT-loop-e

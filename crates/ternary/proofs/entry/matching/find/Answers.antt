@@ -5,7 +5,7 @@ use Rattle.std.specs.declared.option.Option.{Option}
 use Rattle.ternary.specs.declared.entry.Entry.{Entry}
 use Rattle.ternary.specs.Match.{Decision, IsFirst, first}
 use Rattle.ternary.proofs.FirstMatch.{first-here, first-later, first-past, first-is-first}
-use Rattle.ternary.proofs.entry.matching.first_match.Needs as need
+use Rattle.ternary.proofs.entry.matching.find.Needs as need
 
 -- an answer that equals the computed one is the first match
 by-value : (es : List Entry) (code byte : ℕ) (r : Option Decision) → r ≡ first es code byte → IsFirst es code byte r
