@@ -2,6 +2,8 @@
 use mathlib.Core.List.{List, [], _∷_}
 use mathlib.Core.Bool.{cond}
 use Prim.Native.Nat.{ℕ}
+use Rattle.std.specs.declared.option.Option.{Option}
+use Rattle.std.specs.declared.option.Option.the-variants.{Some, None}
 use Rattle.ternary.specs.declared.words.Progress.{Progress}
 use Rattle.ternary.specs.declared.refusal.Refusal.{Refusal}
 use Rattle.ternary.specs.declared.refusal.Refusal.the-variants.{BadAutomaton, WorkTooShort, OutputTooShort, TooManyEntries, CardFull, CardTooSmall, NoEntry, NotLoaded, PieceTooLong, Malformed, Mismatch, WrongEntry}
@@ -39,3 +41,18 @@ values PieceTooLong = []
 values (Malformed at) = at ∷ []
 values Mismatch = []
 values (WrongEntry s b) = s .0 ∷ b ∷ []
+
+-- the offset at which a file or an image is malformed
+abbrev pub offset : Refusal → Option ℕ
+offset BadAutomaton = None
+offset WorkTooShort = None
+offset OutputTooShort = None
+offset TooManyEntries = None
+offset CardFull = None
+offset CardTooSmall = None
+offset (NoEntry p) = None
+offset NotLoaded = None
+offset PieceTooLong = None
+offset (Malformed at) = Some at
+offset Mismatch = None
+offset (WrongEntry s b) = None
