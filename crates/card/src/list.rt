@@ -1,0 +1,60 @@
+ghost use mathlib.Core.Path.{_≡_};
+ghost use Prim.Native.Nat.{_≤_, _-_};
+ghost use lib.ListN.{length, take};
+ghost use denote.Ref.{now};
+use crate::rules::Card;
+use ternary::entry::Entry;
+use ternary::entry::matching::first_match;
+use ternary::refusal::Refusal;
+use ternary::words::StateCode;
+
+// A card over a lent buffer: its list is the first `used` places, in order.
+#[derive(Drop)]
+pub struct ListCard<'a> {
+    buffer: &'a mut [Entry],
+    used: usize,
+    ghost fits: { used ≤ length (now buffer) },
+}
+
+impl<'a> ListCard<'a> {
+    // An empty card over the buffer, whatever that holds.
+    pub fn new(buffer: &'a mut [Entry]) -> ListCard<'a>
+        ensures empty { λ r. ⌜ r .used ≡ 0 ⌝ }
+        ensures buffer { λ r. ⌜ now (r .buffer) ≡ now (buffer .entry) ⌝ }
+    {
+        ListCard { buffer, used: 0 }
+    }
+}
+
+pub impl Card for ListCard<'_> as ListCardRules {
+    ghost entries = { λ c. take (c .used) (now (c .buffer)) };
+
+    ghost free = { λ c. length (now (c .buffer)) - c .used };
+
+    ghost size = { λ c. length (now (c .buffer)) };
+
+    fn capacity(&self) -> u16 {
+        self.buffer.len().min(65_535) as u16
+    }
+
+    fn is_empty(&self) -> bool {
+        self.used == 0
+    }
+
+    fn clear(&mut self) {
+        self.used = 0;
+    }
+
+    fn append(&mut self, e: Entry) -> Result<(), Refusal> {
+        if self.used == self.buffer.len() {
+            return Err(Refusal::CardFull);
+        }
+        self.buffer[self.used] = e;
+        self.used += 1;
+        Ok(())
+    }
+
+    fn search(&self, code: StateCode, byte: u8) -> Option<(StateCode, u8)> {
+        first_match(&self.buffer[0..self.used], code, byte)
+    }
+}
