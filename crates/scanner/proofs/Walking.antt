@@ -82,11 +82,10 @@ module _ (es : List Entry) (from : StateCode) (piece : List ℕ) (buffer after :
   here-unmarked next class within hit z = (traced-unmarked es from piece i code (map marked (take w after)) within (here .0) next class hit z, here .1, here .2)
 
   -- one byte more that gives a mark
-  pub here-marked : (next : StateCode) (class : ℕ) → i < length piece → first es (code .0) (getD piece i 0) ≡ Some (next, class) → (class ≡ 0 → ⊥) → (w ≡ length after → ⊥)
+  pub here-marked : (next : StateCode) (class : ℕ) → i < length piece → first es (code .0) (getD piece i 0) ≡ Some (next, class) → (class ≡ 0 → ⊥) → w < length after
       → Here es from piece buffer (set after w (record { place = i; class = class })) (i + 1) (w + 1) next
-  here-marked next class within hit nz room =
-      let m : Mark = record { place = i; class = class } in
-      let fits : w < length after = omega (arith, here .1) in (
+  here-marked next class within hit nz fits =
+      let m : Mark = record { place = i; class = class } in (
         traced-marked es from piece i code (map marked (take w after)) within (here .0) next class hit nz ∙ ap (λ (xs : List Marked). Some (next, xs)) (sym (written-more after w m fits)),
         simp length-set (omega arith),
         beyond-more after buffer w m (here .2),
@@ -132,7 +131,7 @@ module _ (es : List Entry) (from : StateCode) (piece : List ℕ) (buffer after :
 
     -- the next mark has no slot
     pub full-here : (p : Progress) → p ≡ record { taken = i; marks = w; code = code; «marks_full» = true; searches = i + 1 }
-        → (next : StateCode) (class : ℕ) → i < length piece → first es (code .0) (getD piece i 0) ≡ Some (next, class) → (class ≡ 0 → ⊥) → w ≡ length after → Walked es from piece buffer after p
+        → (next : StateCode) (class : ℕ) → i < length piece → first es (code .0) (getD piece i 0) ≡ Some (next, class) → (class ≡ 0 → ⊥) → length after ≤ w → Walked es from piece buffer after p
     full-here p is next class within hit nz full =
         subst (Walked es from piece buffer after) (sym is) (record {
           short = short;

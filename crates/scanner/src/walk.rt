@@ -1,5 +1,6 @@
 ghost use mathlib.Core.Path.{_≡_};
-ghost use Prim.Native.Nat.{_+_, _<_};
+ghost use Prim.Native.Nat.{_+_, _<_, _≤_};
+ghost use Rattle.std.specs.Orderings.{Decides};
 ghost use Rattle.scanner.specs.Walks.{longest, Outcome, Only};
 use card::rules::Card;
 use ternary::refusal::Refusal;
@@ -29,10 +30,10 @@ pub fn walk<C: Card>(
         let Some((next, class)) = card.search(code, *byte) else {
             return Err(Refusal::NoEntry(stopped(i, written, code, false)));
         };
+        if lacks_slot(class, written, marks.len()) {
+            return Ok(stopped(i, written, code, true));
+        }
         if class != 0 {
-            if written == marks.len() {
-                return Ok(stopped(i, written, code, true));
-            }
             marks[written] = Mark {
                 place: i as u16,
                 class,
@@ -48,6 +49,13 @@ pub fn walk<C: Card>(
         marks_full: false,
         searches: piece.len(),
     })
+}
+
+// Whether a byte that leads to this class gives a mark, and no slot is left for it.
+fn lacks_slot(class: u8, written: usize, slots: usize) -> bool
+    ensures { λ r. ⌜ Decides r ((class ≡ 0 → ⊥) × (slots ≤ written)) ⌝ }
+{
+    class != 0 && written >= slots
 }
 
 // The answer of a walk that stops before the end of its piece: the search for the next byte counts too.
