@@ -1,5 +1,5 @@
 ghost use mathlib.Core.Path.{_≡_};
-ghost use Prim.Native.Nat.{_≤_, _-_};
+ghost use Prim.Native.Nat.{min, _-_};
 ghost use lib.ListN.{length, take};
 ghost use denote.Ref.{now};
 use crate::rules::Card;
@@ -8,12 +8,11 @@ use ternary::entry::matching::first_match;
 use ternary::refusal::Refusal;
 use ternary::words::StateCode;
 
-// A card over a lent buffer: its list is the first `used` places, in order.
+// A card over a lent buffer: its list is the first `used` places, in order, and the whole buffer if that has fewer.
 #[derive(Drop)]
 pub struct ListCard<'a> {
     buffer: &'a mut [Entry],
     used: usize,
-    ghost fits: { used ≤ length (now buffer) },
 }
 
 impl<'a> ListCard<'a> {
@@ -23,6 +22,13 @@ impl<'a> ListCard<'a> {
         ensures buffer { λ r. ⌜ now (r .buffer) ≡ now (buffer .entry) ⌝ }
     {
         ListCard { buffer, used: 0 }
+    }
+
+    // The number of entries in the list.
+    fn count(&self) -> usize
+        ensures { λ r. ⌜ r ≡ min (now (self .entry) .used) (length (now (now (self .entry) .buffer))) ⌝ }
+    {
+        self.used.min(self.buffer.len())
     }
 }
 
@@ -38,7 +44,7 @@ pub impl Card for ListCard<'_> as ListCardRules {
     }
 
     fn is_empty(&self) -> bool {
-        self.used == 0
+        self.count() == 0
     }
 
     fn clear(&mut self) {
@@ -46,15 +52,16 @@ pub impl Card for ListCard<'_> as ListCardRules {
     }
 
     fn append(&mut self, e: Entry) -> Result<(), Refusal> {
-        if self.used == self.buffer.len() {
+        let count = self.count();
+        if count == self.buffer.len() {
             return Err(Refusal::CardFull);
         }
-        self.buffer[self.used] = e;
-        self.used += 1;
+        self.buffer[count] = e;
+        self.used = count + 1;
         Ok(())
     }
 
     fn search(&self, code: StateCode, byte: u8) -> Option<(StateCode, u8)> {
-        first_match(&self.buffer[0..self.used], code, byte)
+        first_match(&self.buffer[0..self.count()], code, byte)
     }
 }

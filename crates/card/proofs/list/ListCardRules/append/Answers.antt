@@ -1,13 +1,9 @@
-use native.Mathlib.Omega.{arith}
-use Prim.Native.Nat.{_<_}
-use lib.ListN.{length, length-set}
-use Rattle.std.proofs.shelf.Lists.{take-more-set}
+use Rattle.std.proofs.shelf.Lists.{length-set}
+use Rattle.card.proofs.Places.{added-behind}
 use Rattle.card.proofs.list.ListCardRules.append.Needs as need
 
 pub returns : need.returns
-returns c =
-    let room : c .args .self .now .used < length (c .args .self .now .buffer .now) = omega arith in
-    record {
-      cases = record { room = omega arith; last = take-more-set _ _ _ room; taken = simp length-set (omega arith) };
-      same-size = simp length-set;
-    }
+returns c = record {
+  cases = added-behind (c .args .e) (c .args .self .now .buffer .now) (c .args .self .now .used) (c .count-count .result) (c .count-count .ensures) (c .if-count-self .left);
+  same-size = simp length-set;
+}
