@@ -5,7 +5,7 @@ use mathlib.Core.Bool.{Bool, true, false}
 use Prim.Native.Nat.{ℕ, _+_, _<_}
 use Rattle.ternary.specs.declared.entry.Entry.{Entry}
 use Rattle.ternary.specs.declared.refusal.Refusal.{Refusal}
-use Rattle.ternary.specs.declared.refusal.Refusal.the-variants.{CardFull}
+use Rattle.ternary.specs.Refusals.{KnownBy}
 
 -- whether a list has no entry
 abbrev pub noEntry : List Entry → Bool
@@ -18,8 +18,8 @@ pub record Added (e : Entry) (entries : List Entry) (free : ℕ) (later : List E
   pub last : later ≡ entries ++ e ∷ []
   pub taken : left + 1 ≡ free
 
--- an append is declined: no place was free, and the card is as it was
+-- an append is declined by refusal 5: no place was free, and the card is as it was
 pub record Declined {Made : Type 0} (why : Refusal) (free : ℕ) (before after : Made) : Type 0 where
   pub full : free ≡ 0
-  pub refusal : why ≡ CardFull
+  pub refusal : KnownBy why 5 []
   pub unchanged : after ≡ before

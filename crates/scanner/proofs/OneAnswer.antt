@@ -1,5 +1,6 @@
 -- A walk has one answer, and leaves one buffer.
-use mathlib.Core.Path.{_≡_, refl, ap, sym, _∙_}
+use mathlib.Core.Path.{_≡_, refl, ap, sym, subst, _∙_}
+use mathlib.Core.Logic.{inl, inr}
 use mathlib.Core.List.{List, _++_, map}
 use mathlib.Core.Bool.{Bool}
 use Prim.Native.Nat.{ℕ, _<_}
@@ -10,12 +11,13 @@ use Rattle.std.specs.declared.result.Result.{Result}
 use Rattle.std.specs.declared.result.Result.the-variants.{Ok, Err}
 use Rattle.ternary.specs.declared.entry.Entry.{Entry}
 use Rattle.ternary.specs.declared.refusal.Refusal.{Refusal}
-use Rattle.ternary.specs.declared.refusal.Refusal.the-variants.{BadAutomaton, WorkTooShort, OutputTooShort, TooManyEntries, CardFull, CardTooSmall, NoEntry, NotLoaded, PieceTooLong, Malformed, Mismatch, WrongEntry}
+use Rattle.ternary.specs.declared.refusal.Refusal.the-variants.{NoEntry, PieceTooLong}
 use Rattle.ternary.specs.declared.words.Mark.{Mark}
 use Rattle.ternary.specs.declared.words.Progress.{Progress}
 use Rattle.ternary.specs.declared.words.StateCode.{StateCode}
 use Rattle.ternary.specs.Marks.{Marked, held}
 use Rattle.ternary.specs.Match.{first}
+use Rattle.ternary.proofs.Telling.{known-one}
 use Rattle.scanner.specs.Traces.{Traced, trace}
 use Rattle.scanner.specs.Walks.{longest, searchesFor, Tells, NextLacksEntry, Walked, Unmatched, Outcome, Only}
 
@@ -70,18 +72,8 @@ module _ (es : List Entry) (from : StateCode) (piece : List ℕ) (buffer : List 
 
   ends : (after : List Mark) (r : Result Progress Refusal) → Outcome es from piece buffer after r → Ends after r
   ends after (Ok p) x = well x
-  ends after (Err BadAutomaton) x = absurd x
-  ends after (Err WorkTooShort) x = absurd x
-  ends after (Err OutputTooShort) x = absurd x
-  ends after (Err TooManyEntries) x = absurd x
-  ends after (Err CardFull) x = absurd x
-  ends after (Err CardTooSmall) x = absurd x
-  ends after (Err (NoEntry p)) x = unmatched x
-  ends after (Err NotLoaded) x = absurd x
-  ends after (Err PieceTooLong) x = too-long (x .0) (x .1)
-  ends after (Err (Malformed at)) x = absurd x
-  ends after (Err Mismatch) x = absurd x
-  ends after (Err (WrongEntry s b)) x = absurd x
+  ends after (Err why) (inl x) = subst (λ (w : Refusal). Ends after (Err w)) (sym (known-one why PieceTooLong (x .0))) (too-long (x .1) (x .2))
+  ends after (Err why) (inr x) = subst (λ (w : Refusal). Ends after (Err w)) (sym (known-one why (NoEntry (x .0)) (x .1))) (unmatched (x .2))
 
   one-end : {after later : List Mark} {r other : Result Progress Refusal} → Ends after r → Ends later other → (other ≡ r) × (later ≡ after)
   one-end {after} {later} (well {p = p} x) (well {p = q} y) = (

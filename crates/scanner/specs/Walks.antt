@@ -1,6 +1,7 @@
 -- What a walk over a piece answers and leaves in the mark buffer. Assumes nothing.
 use mathlib.Core.Path.{_≡_}
-use mathlib.Core.List.{List, _++_, map}
+use mathlib.Core.Logic.{_⊎_}
+use mathlib.Core.List.{List, [], _++_, map}
 use mathlib.Core.Bool.{cond, false}
 use Prim.Native.Nat.{ℕ, _+_, _<_, _≤_}
 use lib.Dec.{ltb}
@@ -10,12 +11,12 @@ use Rattle.std.specs.declared.result.Result.{Result}
 use Rattle.std.specs.declared.result.Result.the-variants.{Ok, Err}
 use Rattle.ternary.specs.declared.entry.Entry.{Entry}
 use Rattle.ternary.specs.declared.refusal.Refusal.{Refusal}
-use Rattle.ternary.specs.declared.refusal.Refusal.the-variants.{BadAutomaton, WorkTooShort, OutputTooShort, TooManyEntries, CardFull, CardTooSmall, NoEntry, NotLoaded, PieceTooLong, Malformed, Mismatch, WrongEntry}
 use Rattle.ternary.specs.declared.words.Mark.{Mark}
 use Rattle.ternary.specs.declared.words.Progress.{Progress}
 use Rattle.ternary.specs.declared.words.StateCode.{StateCode}
 use Rattle.ternary.specs.Marks.{Marked, held}
 use Rattle.ternary.specs.Match.{first}
+use Rattle.ternary.specs.Refusals.{progressValues, KnownBy}
 use Rattle.scanner.specs.Traces.{trace}
 
 -- the most bytes that a piece may have
@@ -63,20 +64,10 @@ pub record Unmatched (es : List Entry) (from : StateCode) (piece : List ℕ) (bu
   pub entry : NextLacksEntry es piece p
   pub full : p .«marks_full» ≡ false
 
--- a walk declines where a byte has no entry, and where the piece is too long, which leaves the buffer unchanged; no other refusal is given
+-- a walk declines by refusal 9 where the piece is too long, and leaves the buffer as it was; and by refusal 7 where a byte has no entry
 abbrev pub Declines : List Entry → StateCode → List ℕ → List Mark → List Mark → Refusal → Type 0
-Declines es from piece buffer after BadAutomaton = ⊥
-Declines es from piece buffer after WorkTooShort = ⊥
-Declines es from piece buffer after OutputTooShort = ⊥
-Declines es from piece buffer after TooManyEntries = ⊥
-Declines es from piece buffer after CardFull = ⊥
-Declines es from piece buffer after CardTooSmall = ⊥
-Declines es from piece buffer after (NoEntry p) = Unmatched es from piece buffer after p
-Declines es from piece buffer after NotLoaded = ⊥
-Declines es from piece buffer after PieceTooLong = (longest < length piece) × (after ≡ buffer)
-Declines es from piece buffer after (Malformed at) = ⊥
-Declines es from piece buffer after Mismatch = ⊥
-Declines es from piece buffer after (WrongEntry s b) = ⊥
+Declines es from piece buffer after why =
+    (KnownBy why 9 [] × (longest < length piece) × (after ≡ buffer)) ⊎ ((p : Progress) × KnownBy why 7 (progressValues p) × Unmatched es from piece buffer after p)
 
 -- what a walk answers, and the buffer after it
 abbrev pub Outcome : List Entry → StateCode → List ℕ → List Mark → List Mark → Result Progress Refusal → Type 0

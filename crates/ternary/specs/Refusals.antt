@@ -1,4 +1,5 @@
 -- The numbers and values by which refusals are known outside. Assumes nothing.
+use mathlib.Core.Path.{_≡_}
 use mathlib.Core.List.{List, [], _∷_}
 use mathlib.Core.Bool.{cond}
 use Prim.Native.Nat.{ℕ}
@@ -39,3 +40,7 @@ values PieceTooLong = []
 values (Malformed at) = at ∷ []
 values Mismatch = []
 values (WrongEntry s b) = s .0 ∷ b ∷ []
+
+-- a refusal is known by a number and by the values that it carries
+abbrev pub KnownBy : Refusal → ℕ → List ℕ → Type 0
+KnownBy why n vs = (number why ≡ n) × (values why ≡ vs)

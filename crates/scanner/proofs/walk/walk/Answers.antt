@@ -1,5 +1,5 @@
 use mathlib.Core.Path.{_≡_, refl, sym, _∙_}
-use mathlib.Core.Logic.{⊎-elim}
+use mathlib.Core.Logic.{inl, inr, ⊎-elim}
 use mathlib.Core.Bool.{Bool, false}
 use Prim.Native.Nat.{ℕ, _<_, _≤_}
 use lib.ListN.{length}
@@ -16,7 +16,10 @@ use Rattle.scanner.proofs.walk.walk.Needs.{then-class-ne0, else-class-ne0}
 pub returns-then-piece-gt-LONGEST-PIECE : need.returns-then-piece-gt-LONGEST-PIECE
 returns-then-piece-gt-LONGEST-PIECE g c =
     let long = c .if-piece-gt-LONGEST-PIECE .taken in
-    record { outcome = (long, refl); only = only (g .C·Card .entries (c .args .card .now)) (c .args .from) (c .args .piece .now) (c .args .marks .now) (c .args .marks .now) (Err PieceTooLong) (long, refl) }
+    record {
+      outcome = inl ((refl, refl), long, refl);
+      only = only (g .C·Card .entries (c .args .card .now)) (c .args .from) (c .args .piece .now) (c .args .marks .now) (c .args .marks .now) (Err PieceTooLong) (inl ((refl, refl), long, refl));
+    }
 
 -- a byte that gives a mark and does not lack a slot has one
 slot-left : (b : Bool) (class written slots : ℕ) → Decides b ((class ≡ 0 → ⊥) × (slots ≤ written)) → b ≡ false → (class ≡ 0 → ⊥) → written < slots
@@ -37,7 +40,7 @@ loop-i-again g c =
 pub returns-in-rest : need.returns-in-rest
 returns-in-rest g c =
     let end = unmatched-here _ _ _ _ _ _ _ _ (c .loop-i .inv) (c .loop-i .kept .marks) (c .if-piece-gt-LONGEST-PIECE .left) _ (c .stopped .ensures) (c .loop-i-test .taken) (sym (c .in-rest .ensures tt)) in
-    record { outcome = end; only = only _ _ _ _ _ (Err (NoEntry (c .stopped .result))) end }
+    record { outcome = inr (c .stopped .result, (refl, refl), end); only = only _ _ _ _ _ (Err (NoEntry (c .stopped .result))) (inr (c .stopped .result, (refl, refl), end)) }
 
 pub returns-then-lacks-slot : need.returns-then-lacks-slot
 returns-then-lacks-slot g c =
