@@ -7,6 +7,7 @@ use native.Mathlib.Omega.{arith}
 use Rattle.std.proofs.shelf.Lists.{append-nil, append-assoc}
 use Rattle.std.proofs.shelf.Tests.{true≢false}
 use Rattle.std.specs.Results.{Cases, isOk}
+use Rattle.std.specs.declared.option.Option.{Option}
 use Rattle.std.specs.declared.option.Option.the-variants.{Some, None}
 use Rattle.std.specs.declared.result.Result.{Result}
 use Rattle.std.specs.declared.result.Result.the-variants.{Ok, Err}
@@ -24,11 +25,11 @@ none-in-both [] fs = refl
 none-in-both (e ∷ es) fs = refl
 
 -- the first match is the first card's, and where that has none, the second's
-pub found-in-first : (es fs : List Entry) (code byte : ℕ) (d : Decision) → first es code byte ≡ Some d → first (inARow es fs) code byte ≡ Some d
-found-in-first es fs code byte d found = first-++ es fs code byte ∙ ap (λ o. orElse o (first fs code byte)) found
+pub found-in-first : (es fs : List Entry) (code byte : ℕ) (d : Decision) → Some d ≡ first es code byte → Some d ≡ first (inARow es fs) code byte
+found-in-first es fs code byte d found = ap (λ o. orElse o (first fs code byte)) found ∙ sym (first-++ es fs code byte)
 
-pub left-to-second : (es fs : List Entry) (code byte : ℕ) → first es code byte ≡ None → first (inARow es fs) code byte ≡ first fs code byte
-left-to-second es fs code byte none = first-++ es fs code byte ∙ ap (λ o. orElse o (first fs code byte)) none
+pub left-to-second : (es fs : List Entry) (code byte : ℕ) (r : Option Decision) → None ≡ first es code byte → r ≡ first fs code byte → r ≡ first (inARow es fs) code byte
+left-to-second es fs code byte r none found = found ∙ (ap (λ o. orElse o (first fs code byte)) none ∙ sym (first-++ es fs code byte))
 
 -- the free count is the second card's where its list has an entry, or the first has no free place
 pub free-of-second : (a b : ℕ) (fs : List Entry) → noEntry fs ≡ false → freeOf a b fs ≡ b

@@ -1,7 +1,8 @@
 ghost use mathlib.Core.Path.{_≡_};
-ghost use Prim.Native.Nat.{min, _-_};
-ghost use lib.ListN.{length, take};
-ghost use denote.Ref.{now};
+ghost use mathlib.Core.List.{[]};
+ghost use Prim.Native.Nat.{min};
+ghost use lib.ListN.{length};
+ghost use Rattle.card.specs.ListCards.{listed, unused, places};
 use crate::rules::Card;
 use ternary::entry::Entry;
 use ternary::entry::matching::first_match;
@@ -18,8 +19,9 @@ pub struct ListCard<'a> {
 impl<'a> ListCard<'a> {
     // An empty card over the buffer, whatever that holds.
     pub fn new(buffer: &'a mut [Entry]) -> ListCard<'a>
-        ensures empty { λ r. ⌜ r .used ≡ 0 ⌝ }
-        ensures buffer { λ r. ⌜ now (r .buffer) ≡ now (buffer .entry) ⌝ }
+        ensures list { λ r. ⌜ listed r ≡ [] ⌝ }
+        ensures free { λ r. ⌜ unused r ≡ length (now (buffer .entry)) ⌝ }
+        ensures capacity { λ r. ⌜ places r ≡ length (now (buffer .entry)) ⌝ }
     {
         ListCard { buffer, used: 0 }
     }
@@ -33,11 +35,11 @@ impl<'a> ListCard<'a> {
 }
 
 pub impl Card for ListCard<'_> as ListCardRules {
-    ghost entries = { λ c. take (c .used) (now (c .buffer)) };
+    ghost entries = { listed };
 
-    ghost free = { λ c. length (now (c .buffer)) - c .used };
+    ghost free = { unused };
 
-    ghost size = { λ c. length (now (c .buffer)) };
+    ghost size = { places };
 
     fn capacity(&self) -> u16 {
         self.buffer.len().min(65_535) as u16

@@ -65,12 +65,12 @@ module _ (es : List Entry) (from : StateCode) (piece : List ℕ) (buffer : List 
     )
 
   -- the three ways in which a walk ends
-  data Ends : List Mark → Result Progress Refusal → Type 0 where
+  pub data Ends : List Mark → Result Progress Refusal → Type 0 where
     well : {after : List Mark} {p : Progress} → Walked es from piece buffer after p → Ends after (Ok p)
     unmatched : {after : List Mark} {p : Progress} → Unmatched es from piece buffer after p → Ends after (Err (NoEntry p))
     too-long : {after : List Mark} → longest < length piece → after ≡ buffer → Ends after (Err PieceTooLong)
 
-  ends : (after : List Mark) (r : Result Progress Refusal) → Outcome es from piece buffer after r → Ends after r
+  pub ends : (after : List Mark) (r : Result Progress Refusal) → Outcome es from piece buffer after r → Ends after r
   ends after (Ok p) x = well x
   ends after (Err why) (inl x) = subst (λ (w : Refusal). Ends after (Err w)) (sym (known-one why PieceTooLong (x .0))) (too-long (x .1) (x .2))
   ends after (Err why) (inr x) = subst (λ (w : Refusal). Ends after (Err w)) (sym (known-one why (NoEntry (x .0)) (x .1))) (unmatched (x .2))

@@ -1,5 +1,6 @@
 -- One byte more of a walk, and where it ends.
 use mathlib.Core.Path.{_≡_, refl, ap, sym, subst, _∙_}
+use mathlib.Core.Logic.{inl, inr}
 use mathlib.Core.List.{List, [], _∷_, _++_, map}
 use mathlib.Core.Bool.{Bool, false, true, cond}
 use Prim.Native.Nat.{ℕ, _+_, _<_, _≤_}
@@ -9,14 +10,16 @@ use lib.ListN.{length, drop, take, getD, set}
 use Rattle.std.proofs.shelf.Lists.{append-nil, take-more, length-take-le, take-more-set, take-append-drop, map-push, drop-set-lt, drop-drop, length-push, length-map, length-set, take-all}
 use Rattle.std.proofs.shelf.Tests.{ne-eqb, lt-ltb, le-ltb}
 use Rattle.std.specs.declared.option.Option.the-variants.{Some, None}
+use Rattle.std.specs.declared.result.Result.the-variants.{Ok, Err}
 use Rattle.ternary.specs.declared.entry.Entry.{Entry}
+use Rattle.ternary.specs.declared.refusal.Refusal.the-variants.{NoEntry, PieceTooLong}
 use Rattle.ternary.specs.declared.words.Mark.{Mark}
 use Rattle.ternary.specs.declared.words.Progress.{Progress}
 use Rattle.ternary.specs.declared.words.StateCode.{StateCode}
 use Rattle.ternary.specs.Marks.{Marked, marked, held, mark}
 use Rattle.ternary.specs.Match.{first}
 use Rattle.scanner.specs.Traces.{trace}
-use Rattle.scanner.specs.Walks.{longest, CanTake, TakesMost, searchesFor, Tells, Walked, Unmatched}
+use Rattle.scanner.specs.Walks.{longest, CanTake, searchesFor, Tells, Walked, Unmatched, Outcome}
 use Rattle.scanner.proofs.Tracing.{trace-push, trace-push-none, Over, most-from-over}
 
 -- class 0 gives no mark, any other its place
@@ -71,6 +74,10 @@ held-marked : (xs : List Mark) → map held (map marked xs) ≡ xs
 held-marked [] = refl
 held-marked (x ∷ xs) = ap (λ (l : List Mark). x ∷ l) (held-marked xs)
 
+-- the piece is too long
+pub too-long-here : (es : List Entry) (from : StateCode) (piece : List ℕ) (buffer : List Mark) → longest < length piece → Outcome es from piece buffer buffer (Err PieceTooLong)
+too-long-here es from piece buffer long = inl ((refl, refl), long, refl)
+
 -- what the loop keeps: the bytes so far lead to the code, the marks written are theirs, and the buffer beyond is as it was
 abbrev pub Here : List Entry → StateCode → List ℕ → List Mark → List Mark → ℕ → ℕ → StateCode → Type 0
 Here es from piece buffer after i w code =
@@ -78,15 +85,15 @@ Here es from piece buffer after i w code =
 
 module _ (es : List Entry) (from : StateCode) (piece : List ℕ) (buffer after : List Mark) (i w : ℕ) (code : StateCode) (here : Here es from piece buffer after i w code) where
   -- one byte more that has an entry and gives no mark
-  pub here-unmarked : (next : StateCode) (class : ℕ) → i < length piece → first es (code .0) (getD piece i 0) ≡ Some (next, class) → class ≡ 0 → Here es from piece buffer after (i + 1) w next
-  here-unmarked next class within hit z = (traced-unmarked es from piece i code (map marked (take w after)) within (here .0) next class hit z, here .1, here .2)
+  pub here-unmarked : (next : StateCode) (class : ℕ) → i < length piece → Some (next, class) ≡ first es (code .0) (getD piece i 0) → class ≡ 0 → Here es from piece buffer after (i + 1) w next
+  here-unmarked next class within hit z = (traced-unmarked es from piece i code (map marked (take w after)) within (here .0) next class (sym hit) z, here .1, here .2)
 
   -- one byte more that gives a mark
-  pub here-marked : (next : StateCode) (class : ℕ) → i < length piece → first es (code .0) (getD piece i 0) ≡ Some (next, class) → (class ≡ 0 → ⊥) → w < length after
+  pub here-marked : (next : StateCode) (class : ℕ) → i < length piece → Some (next, class) ≡ first es (code .0) (getD piece i 0) → (class ≡ 0 → ⊥) → w < length after
       → Here es from piece buffer (set after w (record { place = i; class = class })) (i + 1) (w + 1) next
   here-marked next class within hit nz fits =
       let m : Mark = record { place = i; class = class } in (
-        traced-marked es from piece i code (map marked (take w after)) within (here .0) next class hit nz ∙ ap (λ (xs : List Marked). Some (next, xs)) (sym (written-more after w m fits)),
+        traced-marked es from piece i code (map marked (take w after)) within (here .0) next class (sym hit) nz ∙ ap (λ (xs : List Marked). Some (next, xs)) (sym (written-more after w m fits)),
         simp length-set (omega arith),
         beyond-more after buffer w m (here .2),
       )
@@ -120,28 +127,32 @@ module _ (es : List Entry) (from : StateCode) (piece : List ℕ) (buffer after :
 
     -- the walk meets a byte with no entry
     pub unmatched-here : (p : Progress) → p ≡ record { taken = i; marks = w; code = code; «marks_full» = false; searches = i + 1 }
-        → i < length piece → first es (code .0) (getD piece i 0) ≡ None → Unmatched es from piece buffer after p
+        → i < length piece → None ≡ first es (code .0) (getD piece i 0) → Outcome es from piece buffer after (Err (NoEntry p))
     unmatched-here p is within miss =
-        subst (Unmatched es from piece buffer after) (sym is) (record {
-          short = short;
-          tells = tells false (i + 1) (omega arith) (most-unmatched es from piece i code (map marked (take w after)) within (here .0) (length buffer) miss) (one-more within);
-          entry = (within, miss);
-          full = refl;
-        })
+        inr (
+          p,
+          (refl, refl),
+          subst (Unmatched es from piece buffer after) (sym is) (record {
+            short = short;
+            tells = tells false (i + 1) (omega arith) (most-unmatched es from piece i code (map marked (take w after)) within (here .0) (length buffer) (sym miss)) (one-more within);
+            entry = (within, sym miss);
+            full = refl;
+          }),
+        )
 
     -- the next mark has no slot
     pub full-here : (p : Progress) → p ≡ record { taken = i; marks = w; code = code; «marks_full» = true; searches = i + 1 }
-        → (next : StateCode) (class : ℕ) → i < length piece → first es (code .0) (getD piece i 0) ≡ Some (next, class) → (class ≡ 0 → ⊥) → length after ≤ w → Walked es from piece buffer after p
+        → (next : StateCode) (class : ℕ) → i < length piece → Some (next, class) ≡ first es (code .0) (getD piece i 0) → (class ≡ 0 → ⊥) → length after ≤ w → Outcome es from piece buffer after (Ok p)
     full-here p is next class within hit nz full =
         subst (Walked es from piece buffer after) (sym is) (record {
           short = short;
-          tells = tells true (i + 1) (omega arith) (most-full es from piece i code (map marked (take w after)) within (here .0) (length buffer) next class hit nz (omega (arith, count))) (one-more within);
+          tells = tells true (i + 1) (omega arith) (most-full es from piece i code (map marked (take w after)) within (here .0) (length buffer) next class (sym hit) nz (omega (arith, count))) (one-more within);
           entry = λ lacks. let miss = lacks .1 in let z : _≡_ {A = ℕ} 0 1 = cc in omega arith;
           full = sym (lt-ltb i (length piece) within);
         })
 
     -- the piece is at its end
-    pub all-here : (p : Progress) → p ≡ record { taken = i; marks = w; code = code; «marks_full» = false; searches = i } → i ≡ length piece → Walked es from piece buffer after p
+    pub all-here : (p : Progress) → p ≡ record { taken = i; marks = w; code = code; «marks_full» = false; searches = i } → i ≡ length piece → Outcome es from piece buffer after (Ok p)
     all-here p is end =
         let none = le-ltb i (length piece) (omega arith) in
         subst (Walked es from piece buffer after) (sym is) (record {

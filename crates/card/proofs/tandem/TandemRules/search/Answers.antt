@@ -1,4 +1,3 @@
-use mathlib.Core.Path.{sym, _∙_}
 use Rattle.card.proofs.InTandem.{found-in-first, left-to-second}
 use Rattle.card.proofs.tandem.TandemRules.search.Needs as need
 
@@ -6,10 +5,10 @@ pub returns-in-Some : need.returns-in-Some
 returns-in-Some g c =
     let es = g .A·Card .entries (c .args .self .now .first) in
     let fs = g .B·Card .entries (c .args .self .now .second) in
-    sym (found-in-first es fs (c .args .code .0) (c .args .byte) (c .in-Some .found) (sym (c .in-Some .ensures tt)))
+    found-in-first es fs (c .args .code .0) (c .args .byte) (c .in-Some .found) (c .in-Some .ensures tt)
 
 pub returns-in-None : need.returns-in-None
 returns-in-None g c =
     let es = g .A·Card .entries (c .args .self .now .first) in
     let fs = g .B·Card .entries (c .args .self .now .second) in
-    c .search-in-None .ensures ∙ sym (left-to-second es fs (c .args .code .0) (c .args .byte) (sym (c .in-None .ensures tt)))
+    left-to-second es fs (c .args .code .0) (c .args .byte) (c .search-in-None .result) (c .in-None .ensures tt) (c .search-in-None .ensures)
