@@ -1,2 +1,3 @@
 pub mod BitLaws
 pub mod FirstMatch
+pub mod Telling

@@ -1,4 +1,5 @@
 -- The numbers and values by which refusals are known outside. Assumes nothing.
+use mathlib.Core.Path.{_≡_}
 use mathlib.Core.List.{List, [], _∷_}
 use mathlib.Core.Bool.{cond}
 use Prim.Native.Nat.{ℕ}
@@ -56,3 +57,7 @@ offset PieceTooLong = None
 offset (Malformed at) = Some at
 offset Mismatch = None
 offset (WrongEntry s b) = None
+
+-- a refusal is known by a number and by the values that it carries
+abbrev pub KnownBy : Refusal → ℕ → List ℕ → Type 0
+KnownBy why n vs = (number why ≡ n) × (values why ≡ vs)
