@@ -2,6 +2,10 @@
 use mathlib.Core.List.{List, [], _∷_}
 use mathlib.Core.Bool.{cond}
 use Prim.Native.Nat.{ℕ}
+use Rattle.std.specs.declared.option.Option.{Option}
+use Rattle.std.specs.declared.option.Option.the-variants.{Some, None}
+use Rattle.std.specs.declared.result.Result.{Result}
+use Rattle.std.specs.declared.result.Result.the-variants.{Ok, Err}
 use Rattle.ternary.specs.declared.words.Progress.{Progress}
 use Rattle.ternary.specs.declared.refusal.Refusal.{Refusal}
 use Rattle.ternary.specs.declared.refusal.Refusal.the-variants.{BadAutomaton, WorkTooShort, OutputTooShort, TooManyEntries, CardFull, CardTooSmall, NoEntry, NotLoaded, PieceTooLong, Malformed, Mismatch, WrongEntry}
@@ -39,3 +43,8 @@ values PieceTooLong = []
 values (Malformed at) = at ∷ []
 values Mismatch = []
 values (WrongEntry s b) = s .0 ∷ b ∷ []
+
+-- a fault refuses with its offset, and without one the answer stands
+abbrev pub refuseOr : {X : Type 0} → Option ℕ → Result X Refusal → Result X Refusal
+refuseOr None answer = answer
+refuseOr (Some at) answer = Err (Malformed at)

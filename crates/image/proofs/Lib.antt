@@ -1,0 +1,3 @@
+pub mod BytesBack
+pub mod Items
+pub mod Rows

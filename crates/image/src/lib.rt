@@ -1,0 +1,3 @@
+mod raw;
+pub mod reader;
+mod rules;
