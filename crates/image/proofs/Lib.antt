@@ -1,3 +1,5 @@
 pub mod BytesBack
 pub mod Items
+pub mod Packs
+pub mod PartsBack
 pub mod Rows

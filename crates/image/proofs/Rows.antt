@@ -1,14 +1,16 @@
 -- An entry and its fields: each makes the other where no value has a bit under a star.
-use mathlib.Core.Path.{_≡_, refl, ap, _∙_}
+use mathlib.Core.Path.{_≡_, refl, sym, ap, _∙_}
 use mathlib.Core.List.{List, [], _∷_, _++_, map}
 use mathlib.Core.Bool.{false, _&&_}
 use Prim.Native.Nat.{ℕ, _+_, _<_}
 use lib.Bits.{bitAnd}
 use lib.Dec.{eqb, ltb}
+use lib.ListN.{length, getD}
 use Rattle.std.specs.Joined.{joined}
 use Rattle.std.specs.Options.{isSome}
 use Rattle.std.specs.shelf.Lists.{All}
 use Rattle.std.specs.declared.option.Option.the-variants.{None}
+use Rattle.std.proofs.shelf.Lists.{getD-map}
 use Rattle.std.proofs.shelf.Tests.{and-parts, eqb-true, ltb-true}
 use Rattle.ternary.specs.declared.entry.Entry.{Entry}
 use Rattle.ternary.proofs.EntryLaws.{entry-same}
@@ -67,3 +69,7 @@ rows-again limit (f ∷ fs) all = λ i. row-again limit f (all .0) i ∷ rows-ag
 pub entry-bytes : (es : List Entry) → joined entryBytes es ≡ joined rawBytes (map rawOf es)
 entry-bytes [] = refl
 entry-bytes (e ∷ es) = ap (λ (l : List ℕ). entryBytes e ++ l) (entry-bytes es)
+
+-- the fields of the entry at a place
+pub row-at : (es : List Entry) (i : ℕ) (e : Entry) → i < length es → e ≡ getD es i e → rawOf e ≡ getD (map rawOf es) i (rawOf e)
+row-at es i e lt is = ap rawOf is ∙ sym (getD-map rawOf es i e (rawOf e) lt)

@@ -7,12 +7,18 @@ use lib.Bits.{bitAnd}
 use lib.ListN.{length, getD}
 use Rattle.std.specs.Iters.{counting}
 use Rattle.std.specs.Joined.{joined}
+use Rattle.std.specs.Results.{isOk}
 use Rattle.std.specs.declared.option.Option.{Option}
+use Rattle.std.specs.declared.result.Result.{Result}
+use Rattle.std.specs.declared.result.Result.the-variants.{Ok, Err}
 use Rattle.ternary.specs.declared.words.StateNo.{StateNo}
 use Rattle.ternary.specs.declared.words.StateCode.{StateCode}
 use Rattle.ternary.specs.declared.entry.Entry.{Entry}
+use Rattle.ternary.specs.declared.refusal.Refusal.{Refusal}
+use Rattle.ternary.specs.declared.refusal.Refusal.the-variants.{OutputTooShort}
 use Rattle.ternary.specs.Entries.{entryOf}
-use Rattle.fields.specs.Fields.{word, long, be16, be32, check, orElse, firstOf, eachFault}
+use Rattle.ternary.specs.Refusals.{refuseOr}
+use Rattle.fields.specs.Fields.{word, long, be16, be32, written, check, orElse, firstOf, eachFault}
 use Rattle.image.specs.declared.raw.RawEntry.{RawEntry}
 
 -- what an image holds: the code width, the start state, a code for each state, and the entries
@@ -147,3 +153,19 @@ fieldsFault bs = firstOf (
 -- the first field of some bytes that breaks a rule, if one does
 abbrev pub fault : List ℕ → Option ℕ
 fault bs = orElse (check (leb 12 (length bs)) (length bs)) (fieldsFault bs)
+
+-- some parts, named one by one
+abbrev pub partsFrom : ℕ → StateNo → List StateCode → List Entry → Parts
+partsFrom width start codes entries = record { width = width; start = start; codes = codes; entries = entries }
+
+-- the size of the image of some parts
+abbrev pub imageSize : Parts → ℕ
+imageSize p = size (length (p .codes)) (length (p .entries))
+
+-- what packing answers with room for some bytes: a fault before a short output, or the size
+abbrev pub packAnswer : Parts → ℕ → Result ℕ Refusal
+packAnswer p room = refuseOr (partsFault p) (cond (leb (imageSize p) room) (Ok (imageSize p)) (Err OutputTooShort))
+
+-- what packing leaves in the output: the image over its first bytes, or the output as it was
+abbrev pub packAfter : Parts → List ℕ → List ℕ
+packAfter p out = cond (isOk (packAnswer p (length out))) (written out 0 (encode p)) out
