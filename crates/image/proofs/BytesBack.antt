@@ -21,8 +21,9 @@ use Rattle.fields.specs.Fields.{word, long, be16, be32, check, orElse, eachFaul
 use Rattle.fields.proofs.Bytes.{be16-read, be32-read, joined-made}
 use Rattle.fields.proofs.Faults.{both-pass, check-pass, none-from, each-pass}
 use Rattle.image.specs.declared.raw.RawEntry.{RawEntry}
-use Rattle.image.specs.Format.{encode, decode, fault, fieldsFault, partsFault, headerFault, itemsFault, codeFault, rawFault, codeAt, rowAt, codesIn, rowsIn, rawAt, rawOf, entryFrom, codeBytes, rawBytes, entryBytes, headerBytes, size}
-use Rattle.image.proofs.Rows.{Kept, kept, rows-again, entry-bytes}
+use Rattle.image.specs.Format.{codeAt, codeBytes, codesIn, decode, encode, entryBytes, entryFrom, fieldsAt, headerBytes, rawAt, rawBytes, rawOf, rawsIn, size}
+use Rattle.image.specs.Rules.{codeFault, fault, headerFault, itemsFault, partsFault, rawFault}
+use Rattle.image.proofs.Raws.{Kept, kept, raws-again, entry-bytes}
 
 -- the rules of an image, as facts
 record Sound (bs : List ℕ) : Type 0 where
@@ -31,16 +32,16 @@ record Sound (bs : List ℕ) : Type 0 where
   rest : long bs 1 ≡ length bs - 5
   header : isSome (headerFault (getD bs 5 0) (word bs 6) (word bs 8) (word bs 10)) ≡ false
   fits : length bs ≡ size (word bs 6) (word bs 10)
-  items : isSome (itemsFault (getD bs 5 0) (codesIn bs) (rowsIn bs)) ≡ false
+  items : isSome (itemsFault (getD bs 5 0) (codesIn bs) (rawsIn bs)) ≡ false
 
 sound : (bs : List ℕ) → isSome (fault bs) ≡ false → Sound bs
 sound bs h =
-    let a = both-pass (check (leb 12 (length bs)) (length bs)) (fieldsFault bs) h in
+    let a = both-pass (check (leb 12 (length bs)) (length bs)) _ h in
     let b = both-pass (check (eqb (getD bs 0 0) 1) 0) _ (a .1) in
     let d = both-pass (check (eqb (long bs 1) (length bs - 5)) 1) _ (b .1) in
     let e = both-pass (headerFault (getD bs 5 0) (word bs 6) (word bs 8) (word bs 10)) _ (d .1) in
     let f = both-pass (check (eqb (length bs) (size (word bs 6) (word bs 10))) 12) _ (e .1) in
-    let g = both-pass (itemsFault (getD bs 5 0) (codesIn bs) (rowsIn bs)) None (f .1) in
+    let g = both-pass (itemsFault (getD bs 5 0) (codesIn bs) (rawsIn bs)) None (f .1) in
     record {
       room = leb-true 12 (length bs) (check-pass _ _ (a .0));
       version = eqb-true (getD bs 0 0) 1 (check-pass _ _ (b .0));
@@ -64,16 +65,16 @@ module _ (bs : List ℕ) (small : (k : ℕ) → getD bs k 0 < 256) where
   states : length (codesIn bs) ≡ word bs 6
   states = length-map-counting (codeAt bs) 0 (word bs 6)
 
-  entries : length (map entryFrom (rowsIn bs)) ≡ word bs 10
-  entries = length-map (rowsIn bs) entryFrom ∙ length-map-counting (rowAt bs (word bs 6)) 0 (word bs 10)
+  entries : length (map entryFrom (rawsIn bs)) ≡ word bs 10
+  entries = length-map (rawsIn bs) entryFrom ∙ length-map-counting (rawAt bs (word bs 6)) 0 (word bs 10)
 
   code-back : (k : ℕ) → 12 + 2 * k + 2 ≤ length bs → codeBytes (codeAt bs k) ≡ take 2 (drop (12 + 2 * k) bs)
   code-back k h =
       let at : ℕ = 12 + 2 * k in
       word-bytes at ∙ (ap (λ (j : ℕ). getD bs j 0 ∷ getD bs (at + 1) 0 ∷ []) (sym (add-zero at)) ∙ sym (bytes-from bs 2 at h))
 
-  row-back : (n k : ℕ) → size n k + 9 ≤ length bs → rawBytes (rowAt bs n k) ≡ take 9 (drop (size n k) bs)
-  row-back n k h =
+  raw-back : (n k : ℕ) → size n k + 9 ≤ length bs → rawBytes (rawAt bs n k) ≡ take 9 (drop (size n k) bs)
+  raw-back n k h =
       let at : ℕ = size n k in
       let v = word-bytes at in
       let m = word-bytes (at + 2) in
@@ -98,7 +99,7 @@ module _ (bs : List ℕ) (small : (k : ℕ) → getD bs k 0 < 256) where
       ∙ sym (bytes-from bs 12 0 (h .room))
 
   -- the header, the codes and the entries, one after another
-  encode-decode : Sound bs → All (Kept (2 ^ getD bs 5 0)) (rowsIn bs) → encode (decode bs) ≡ bs
+  encode-decode : Sound bs → All (Kept (2 ^ getD bs 5 0)) (rawsIn bs) → encode (decode bs) ≡ bs
   encode-decode h all =
       let n : ℕ = word bs 6 in
       let m : ℕ = word bs 10 in
@@ -106,25 +107,25 @@ module _ (bs : List ℕ) (small : (k : ℕ) → getD bs k 0 < 256) where
       let head = (λ i. headerBytes (getD bs 5 0) (states i) (word bs 8) (entries i)) ∙ header-back h in
       let codes : joined codeBytes (codesIn bs) ≡ take (2 * n) (drop 12 bs) =
       joined-made codeBytes (codeAt bs) bs 12 2 n 0 (λ k lt. code-back k (omega arith)) in
-      let rows : joined rawBytes (rowsIn bs) ≡ take (9 * m) (drop (12 + 2 * n + 0) bs) =
-      joined-made rawBytes (rowAt bs n) bs (12 + 2 * n) 9 m 0 (λ k lt. row-back n k (omega arith)) in
+      let raws : joined rawBytes (rawsIn bs) ≡ take (9 * m) (drop (12 + 2 * n + 0) bs) =
+      joined-made rawBytes (rawAt bs n) bs (12 + 2 * n) 9 m 0 (λ k lt. raw-back n k (omega arith)) in
       let rest : take (9 * m) (drop (12 + 2 * n + 0) bs) ≡ drop (2 * n) (drop 12 bs) =
       ap (λ (k : ℕ). take (9 * m) (drop k bs)) (add-zero (12 + 2 * n))
       ∙ (take-all (9 * m) (drop (12 + 2 * n) bs) (rw length-drop (omega arith)) ∙ sym (drop-drop (2 * n) 12 bs)) in
-      let tail = entry-bytes (map entryFrom (rowsIn bs)) ∙ (ap (joined rawBytes) (rows-again (2 ^ getD bs 5 0) (rowsIn bs) all) ∙ (rows ∙ rest)) in
+      let tail = entry-bytes (map entryFrom (rawsIn bs)) ∙ (ap (joined rawBytes) (raws-again (2 ^ getD bs 5 0) (rawsIn bs) all) ∙ (raws ∙ rest)) in
       (λ i. head i ++ (codes i ++ tail i))
       ∙ (ap (λ (l : List ℕ). take 12 bs ++ l) (take-append-drop (2 * n) (drop 12 bs)) ∙ take-append-drop 12 bs)
 
-  no-fault : Sound bs → All (Kept (2 ^ getD bs 5 0)) (rowsIn bs) → partsFault (decode bs) ≡ None
+  no-fault : Sound bs → All (Kept (2 ^ getD bs 5 0)) (rawsIn bs) → partsFault (decode bs) ≡ None
   no-fault h all =
-      let again = rows-again (2 ^ getD bs 5 0) (rowsIn bs) all in
+      let again = raws-again (2 ^ getD bs 5 0) (rawsIn bs) all in
       (λ i. orElse (headerFault (getD bs 5 0) (states i) (word bs 8) (entries i)) (itemsFault (getD bs 5 0) (codesIn bs) (again i)))
-      ∙ (ap (λ (f : Option ℕ). orElse f (itemsFault (getD bs 5 0) (codesIn bs) (rowsIn bs))) (none-from _ (h .header)) ∙ none-from _ (h .items))
+      ∙ (ap (λ (f : Option ℕ). orElse f (itemsFault (getD bs 5 0) (codesIn bs) (rawsIn bs))) (none-from _ (h .header)) ∙ none-from _ (h .items))
 
 pub bytes-back : (bs : List ℕ) → ((k : ℕ) → getD bs k 0 < 256) → fault bs ≡ None → (partsFault (decode bs) ≡ None) × (encode (decode bs) ≡ bs)
 bytes-back bs small none =
     let h = sound bs (ap isSome none) in
     let w : ℕ = getD bs 5 0 in
-    let items = both-pass (eachFault (codeFault (2 ^ w)) 2 12 (codesIn bs)) (eachFault (rawFault (2 ^ w)) 9 (12 + 2 * length (codesIn bs)) (rowsIn bs)) (h .items) in
-    let all = each-pass (Kept (2 ^ w)) (rawFault (2 ^ w)) 9 (kept (2 ^ w)) (12 + 2 * length (codesIn bs)) (rowsIn bs) (items .1) in
+    let items = both-pass (eachFault (codeFault (2 ^ w)) 2 12 (codesIn bs)) (eachFault (rawFault (2 ^ w)) 9 (12 + 2 * length (codesIn bs)) (rawsIn bs)) (h .items) in
+    let all = each-pass (Kept (2 ^ w)) (rawFault (2 ^ w)) 9 (kept (2 ^ w)) (12 + 2 * length (codesIn bs)) (rawsIn bs) (items .1) in
     (no-fault bs small h all, encode-decode bs small h all)

@@ -2,4 +2,4 @@ pub mod BytesBack
 pub mod Items
 pub mod Packs
 pub mod PartsBack
-pub mod Rows
+pub mod Raws

@@ -17,7 +17,9 @@ use Rattle.ternary.specs.declared.refusal.Refusal.the-variants.{OutputTooShort}
 use Rattle.ternary.specs.Refusals.{refuseOr}
 use Rattle.fields.specs.Fields.{written}
 use Rattle.fields.proofs.Writes.{written-written, length-joined}
-use Rattle.image.specs.Format.{Parts, partsFault, imageSize, packAnswer, packAfter, encode, headerBytes, codeBytes, entryBytes}
+use Rattle.image.specs.Calls.{imageSize, packAfter, packAnswer}
+use Rattle.image.specs.Format.{Parts, codeBytes, encode, entryBytes, headerBytes}
+use Rattle.image.specs.Rules.{partsFault}
 
 pub packed-answer : (p : Parts) (room : ℕ) → partsFault p ≡ None → imageSize p ≤ room → packAnswer p room ≡ Ok (imageSize p)
 packed-answer p room none h =

@@ -23,9 +23,10 @@ use Rattle.fields.proofs.Bytes.{be16-back, be32-back, byte-of-item}
 use Rattle.fields.proofs.Faults.{both-pass, check-pass, none-from, pass, each-pass}
 use Rattle.fields.proofs.Writes.{length-joined}
 use Rattle.image.specs.declared.raw.RawEntry.{RawEntry}
-use Rattle.image.specs.Format.{Parts, encode, decode, fault, partsFault, itemsFault, headerFault, codeFault, rawFault, fieldsFault, codeAt, rawAt, rowAt, rowsIn, codesIn, rawOf, entryFrom, codeBytes, rawBytes, entryBytes, size}
+use Rattle.image.specs.Format.{Parts, codeAt, codeBytes, codesIn, decode, encode, entryBytes, entryFrom, fieldsAt, rawAt, rawBytes, rawOf, rawsIn, size}
+use Rattle.image.specs.Rules.{codeFault, fault, headerFault, itemsFault, partsFault, rawFault}
 use Rattle.image.proofs.Packs.{headOf, length-encode}
-use Rattle.image.proofs.Rows.{Kept, kept, entries-again, entry-bytes}
+use Rattle.image.proofs.Raws.{Kept, kept, entries-again, entry-bytes}
 
 -- the rules that parts keep, as facts
 record Ruled (p : Parts) : Type 0 where
@@ -34,7 +35,7 @@ record Ruled (p : Parts) : Type 0 where
   start : p .start .0 < 512
   entries : length (p .entries) ≤ 4096
   code : All (λ c. c .0 < 65536) (p .codes)
-  row : All (Kept (2 ^ p .width)) (map rawOf (p .entries))
+  raw : All (Kept (2 ^ p .width)) (map rawOf (p .entries))
 
 below-limit : (w x : ℕ) → w ≤ 16 → x < 2 ^ w → x < 65536
 below-limit w x h lt = let top : 2 ^ w ≤ 2 ^ 16 = pow-mono h in omega arith
@@ -43,22 +44,22 @@ ruled : (p : Parts) → partsFault p ≡ None → Ruled p
 ruled p none =
     let n : ℕ = length (p .codes) in
     let m : ℕ = length (p .entries) in
-    let rows : List RawEntry = map rawOf (p .entries) in
-    let all = both-pass (headerFault (p .width) n (p .start .0) m) (itemsFault (p .width) (p .codes) rows) (ap isSome none) in
+    let raws : List RawEntry = map rawOf (p .entries) in
+    let all = both-pass (headerFault (p .width) n (p .start .0) m) (itemsFault (p .width) (p .codes) raws) (ap isSome none) in
     let a = both-pass (check (leb (p .width) 16) 5) _ (all .0) in
     let b = both-pass (check (leb 1 n && leb n 512) 6) _ (a .1) in
     let d = both-pass (check (ltb (p .start .0) n) 8) _ (b .1) in
     let e = both-pass (check (leb m 4096) 10) None (d .1) in
     let wide : p .width ≤ 16 = leb-true (p .width) 16 (check-pass _ _ (a .0)) in
     let states : n ≤ 512 = leb-true n 512 (and-parts (leb 1 n) (leb n 512) (check-pass _ _ (b .0)) .1) in
-    let items = both-pass (eachFault (codeFault (2 ^ p .width)) 2 12 (p .codes)) (eachFault (rawFault (2 ^ p .width)) 9 (12 + 2 * n) rows) (all .1) in
+    let items = both-pass (eachFault (codeFault (2 ^ p .width)) 2 12 (p .codes)) (eachFault (rawFault (2 ^ p .width)) 9 (12 + 2 * n) raws) (all .1) in
     record {
       wide = wide;
       states = states;
       start = omega (arith, ltb-true (p .start .0) n (check-pass _ _ (d .0)));
       entries = leb-true m 4096 (check-pass _ _ (e .0));
       code = each-pass (λ c. c .0 < 65536) (codeFault (2 ^ p .width)) 2 (λ at c h. below-limit (p .width) (c .0) wide (ltb-true (c .0) (2 ^ p .width) (check-pass _ _ h))) 12 (p .codes) (items .0);
-      row = each-pass (Kept (2 ^ p .width)) (rawFault (2 ^ p .width)) 9 (kept (2 ^ p .width)) (12 + 2 * n) rows (items .1);
+      raw = each-pass (Kept (2 ^ p .width)) (rawFault (2 ^ p .width)) 9 (kept (2 ^ p .width)) (12 + 2 * n) raws (items .1);
     }
 
 module _ (p : Parts) (rules : Ruled p) where
@@ -73,26 +74,26 @@ module _ (p : Parts) (rules : Ruled p) where
       let back : c .0 ≡ word (encode p) (12 + 2 * k) = sym (be16-back (c .0) fits) ∙ (λ i. sym high i * 256 + sym low i) in
       λ i. record { 0 = back i }
 
-  row-read : (k : ℕ) (d : RawEntry) → k < length (map rawOf (p .entries)) → getD (map rawOf (p .entries)) k d ≡ rowAt (encode p) (length (p .codes)) k
-  row-read k d h =
-      let rows : List RawEntry = map rawOf (p .entries) in
-      let f : RawEntry = getD rows k d in
+  raw-read : (k : ℕ) (d : RawEntry) → k < length (map rawOf (p .entries)) → getD (map rawOf (p .entries)) k d ≡ rawAt (encode p) (length (p .codes)) k
+  raw-read k d h =
+      let raws : List RawEntry = map rawOf (p .entries) in
+      let f : RawEntry = getD raws k d in
       let n : ℕ = length (p .codes) in
       let at : ℕ = size n k in
       let codes : List ℕ = joined codeBytes (p .codes) in
-      let bytes : List ℕ = joined rawBytes rows in
+      let bytes : List ℕ = joined rawBytes raws in
       let split : encode p ≡ (headOf p ++ codes) ++ (bytes ++ []) =
       ap (λ (l : List ℕ). headOf p ++ (codes ++ l)) (entry-bytes (p .entries) ∙ sym (append-nil bytes)) ∙ sym (append-assoc (headOf p) codes (bytes ++ [])) in
       let long = length-joined codeBytes 2 (λ _. refl) (p .codes) in
       let read : (j there : ℕ) → j < 9 → there ≡ at + j → getD (encode p) there 0 ≡ getD (rawBytes f) j 0 =
       λ j there lt is. ap (λ (l : List ℕ). getD l there 0) split
-      ∙ byte-of-item rawBytes 9 (λ _. refl) (headOf p ++ codes) [] rows k j there d h lt (omega (arith, length-append (headOf p) codes)) in
+      ∙ byte-of-item rawBytes 9 (λ _. refl) (headOf p ++ codes) [] raws k j there d h lt (omega (arith, length-append (headOf p) codes)) in
       let word-read : (x j there : ℕ) → x < 2 ^ p .width → there ≡ at + j → getD (rawBytes f) j 0 ≡ x / 256 % 256 → getD (rawBytes f) (j + 1) 0 ≡ x % 256 → j < 8 → x ≡ word (encode p) there =
       λ x j there small is high low lt.
       let high-read : x / 256 % 256 ≡ getD (encode p) there 0 = sym (read j there (omega arith) is ∙ high) in
       let low-read : x % 256 ≡ getD (encode p) (there + 1) 0 = sym (read (j + 1) (there + 1) (omega arith) (omega arith) ∙ low) in
       sym (be16-back x (below-limit (p .width) x (rules .wide) small)) ∙ (λ i. high-read i * 256 + low-read i) in
-      let keeps = all-getD (Kept (2 ^ p .width)) rows k d h (rules .row) in
+      let keeps = all-getD (Kept (2 ^ p .width)) raws k d h (rules .raw) in
       let value = word-read (f .«code_value») 0 at (keeps .code-small) (omega arith) refl refl (omega arith) in
       let mask = word-read (f .«code_mask») 2 (at + 2) (keeps .mask-small) (omega arith) refl refl (omega arith) in
       let next = word-read (f .next .0) 6 (at + 6) (keeps .next-small) (omega arith) refl refl (omega arith) in
@@ -123,16 +124,16 @@ module _ (p : Parts) (rules : Ruled p) where
       ap (λ (k : ℕ). map (codeAt (encode p)) (counting 0 k)) n-is
       ∙ sym (fill-by-all (codeAt (encode p)) (p .codes) (length (p .codes)) none refl (λ k h. code-read k none h))
 
-  rows-read : rowsIn (encode p) ≡ map rawOf (p .entries)
-  rows-read =
-      let none : RawEntry = rawAt [] 0 in
+  raws-read : rawsIn (encode p) ≡ map rawOf (p .entries)
+  raws-read =
+      let none : RawEntry = fieldsAt [] 0 in
       let long = length-map (p .entries) rawOf in
-      (λ i. map (rowAt (encode p) (n-is i)) (counting 0 (m-is i)))
-      ∙ sym (fill-by-all (rowAt (encode p) (length (p .codes))) (map rawOf (p .entries)) (length (p .entries)) none long (λ k h. row-read k none (omega arith)))
+      (λ i. map (rawAt (encode p) (n-is i)) (counting 0 (m-is i)))
+      ∙ sym (fill-by-all (rawAt (encode p) (length (p .codes))) (map rawOf (p .entries)) (length (p .entries)) none long (λ k h. raw-read k none (omega arith)))
 
   decode-encode : decode (encode p) ≡ p
   decode-encode =
-      let entries : map entryFrom (rowsIn (encode p)) ≡ p .entries = ap (map entryFrom) rows-read ∙ entries-again (p .entries) in
+      let entries : map entryFrom (rawsIn (encode p)) ≡ p .entries = ap (map entryFrom) raws-read ∙ entries-again (p .entries) in
       λ i. record { width = p .width; start = record { 0 = start-is i }; codes = codes-read i; entries = entries i }
 
   fault-encode : partsFault p ≡ None → fault (encode p) ≡ None
@@ -145,11 +146,11 @@ module _ (p : Parts) (rules : Ruled p) where
       let parts = both-pass (headerFault (p .width) n (p .start .0) m) (itemsFault (p .width) (p .codes) (map rawOf (p .entries))) (ap isSome none) in
       let header : headerFault (p .width) (word bs 6) (word bs 8) (word bs 10) ≡ None =
       (λ i. headerFault (p .width) (n-is i) (start-is i) (m-is i)) ∙ none-from _ (parts .0) in
-      let items : itemsFault (p .width) (codesIn bs) (rowsIn bs) ≡ None =
-      (λ i. itemsFault (p .width) (codes-read i) (rows-read i)) ∙ none-from _ (parts .1) in
-      pass (leb 12 (length bs)) (length bs) (fieldsFault bs) (le-leb 12 (length bs) (omega arith))
+      let items : itemsFault (p .width) (codesIn bs) (rawsIn bs) ≡ None =
+      (λ i. itemsFault (p .width) (codes-read i) (raws-read i)) ∙ none-from _ (parts .1) in
+      pass (leb 12 (length bs)) (length bs) _ (le-leb 12 (length bs) (omega arith))
       ∙ (pass (eqb (long bs 1) (length bs - 5)) 1 _ (eq-eqb (long bs 1) (length bs - 5) (long-is ∙ ap (λ (k : ℕ). k - 5) (sym len)))
-      ∙ (ap (λ (f : Option ℕ). orElse f (orElse (check (eqb (length bs) (size (word bs 6) (word bs 10))) 12) (orElse (itemsFault (p .width) (codesIn bs) (rowsIn bs)) None))) header
+      ∙ (ap (λ (f : Option ℕ). orElse f (orElse (check (eqb (length bs) (size (word bs 6) (word bs 10))) 12) (orElse (itemsFault (p .width) (codesIn bs) (rawsIn bs)) None))) header
       ∙ (pass (eqb (length bs) (size (word bs 6) (word bs 10))) 12 _ (eq-eqb (length bs) (size (word bs 6) (word bs 10)) (len ∙ (λ i. size (sym n-is i) (sym m-is i))))
       ∙ ap (λ (f : Option ℕ). orElse f None) items)))
 

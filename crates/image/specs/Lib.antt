@@ -1,2 +1,3 @@
+pub mod Calls
 pub mod Format
-pub mod Holding
+pub mod Rules

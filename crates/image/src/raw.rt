@@ -1,6 +1,7 @@
 ghost use mathlib.Core.Path.{_≡_};
 ghost use Prim.Native.Nat.{ℕ, _^_, _<_};
-ghost use Rattle.image.specs.Format.{rawOf, entryFrom, rawBytes, rawAt, rawFault};
+ghost use Rattle.image.specs.Format.{entryFrom, fieldsAt, rawBytes, rawOf};
+ghost use Rattle.image.specs.Rules.{rawFault};
 use fields::byte_at;
 use fields::word_at;
 use ternary::entry::Entry;
@@ -21,7 +22,7 @@ impl RawEntry {
     // The fields in the nine bytes at `at`.
     pub(crate) fn read(bytes: &[u8], at: usize) -> RawEntry
         requires { ⌜ at < 2 ^ 32 ⌝ }
-        ensures { λ r. ⌜ r ≡ rawAt (now (bytes .entry)) at ⌝ }
+        ensures { λ r. ⌜ r ≡ fieldsAt (now (bytes .entry)) at ⌝ }
     {
         RawEntry {
             code_value: word_at(bytes, at),

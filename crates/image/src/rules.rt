@@ -1,6 +1,6 @@
 ghost use mathlib.Core.Path.{_≡_};
 ghost use Prim.Native.Nat.{ℕ, _^_, _≤_};
-ghost use Rattle.image.specs.Format.{headerFault, codeFault};
+ghost use Rattle.image.specs.Rules.{codeFault, headerFault};
 use ternary::words::StateCode;
 use ternary::words::StateNo;
 

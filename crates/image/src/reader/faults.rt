@@ -3,15 +3,15 @@ ghost use mathlib.Core.List.{map};
 ghost use Prim.Native.Nat.{ℕ, _+_, _*_, _^_, _<_, _≤_};
 ghost use lib.ListN.{length};
 ghost use Rattle.std.specs.Iters.{counting};
-ghost use Rattle.fields.specs.Fields.{long, eachFault};
-ghost use Rattle.image.specs.Format.{codeAt, rowAt, codeFault, rawFault, itemsFault, fieldsFault, fault};
+ghost use Rattle.fields.specs.Fields.{eachFault};
+ghost use Rattle.image.specs.Format.{codeAt, rawAt};
+ghost use Rattle.image.specs.Rules.{codeFault, fault, itemsFault, rawFault};
 use crate::raw::RawEntry;
 use crate::reader::Header;
 use crate::reader::code_at;
 use crate::rules::code_fault;
 use crate::rules::code_limit;
 use crate::rules::header_fault;
-use fields::byte_at;
 
 // The first fault of the codes.
 fn codes_fault(bytes: &[u8], limit: u32, states: u16) -> Option<usize>
@@ -28,7 +28,7 @@ fn codes_fault(bytes: &[u8], limit: u32, states: u16) -> Option<usize>
 
 // The first fault of the entries.
 fn entries_fault(bytes: &[u8], limit: u32, states: u16, entries: u16) -> Option<usize>
-    ensures { λ r. ⌜ r ≡ eachFault (rawFault limit) 9 (12 + 2 * states) (map (rowAt (now (bytes .entry)) states) (counting 0 entries)) ⌝ }
+    ensures { λ r. ⌜ r ≡ eachFault (rawFault limit) 9 (12 + 2 * states) (map (rawAt (now (bytes .entry)) states) (counting 0 entries)) ⌝ }
 {
     for index in 0..entries as usize {
         let at = 12 + 2 * states as usize + 9 * index;
@@ -43,7 +43,7 @@ fn entries_fault(bytes: &[u8], limit: u32, states: u16, entries: u16) -> Option<
 // The first fault of the codes and the entries.
 fn items_fault(bytes: &[u8], header: Header) -> Option<usize>
     requires { ⌜ header .width ≤ 16 ⌝ }
-    ensures { λ r. ⌜ r ≡ itemsFault (header .width) (map (codeAt (now (bytes .entry))) (counting 0 (header .states))) (map (rowAt (now (bytes .entry)) (header .states)) (counting 0 (header .entries))) ⌝ }
+    ensures { λ r. ⌜ r ≡ itemsFault (header .width) (map (codeAt (now (bytes .entry))) (counting 0 (header .states))) (map (rawAt (now (bytes .entry)) (header .states)) (counting 0 (header .entries))) ⌝ }
 {
     let limit = code_limit(header.width);
     let fault = codes_fault(bytes, limit, header.states);
@@ -53,28 +53,17 @@ fn items_fault(bytes: &[u8], header: Header) -> Option<usize>
     entries_fault(bytes, limit, header.states, header.entries)
 }
 
-// The number in the four bytes at `at`, the highest first.
-fn long_at(bytes: &[u8], at: usize) -> u32
-    requires { ⌜ at < 2 ^ 32 ⌝ }
-    ensures { λ r. ⌜ r ≡ long (now (bytes .entry)) at ⌝ }
+// The first field of some bytes that breaks a rule.
+pub(crate) fn image_fault(bytes: &[u8]) -> Option<usize>
+    ensures { λ r. ⌜ r ≡ fault (now (bytes .entry)) ⌝ }
 {
-    u32::from_be_bytes([
-        byte_at(bytes, at),
-        byte_at(bytes, at + 1),
-        byte_at(bytes, at + 2),
-        byte_at(bytes, at + 3),
-    ])
-}
-
-// The first fault of twelve bytes or more.
-fn fields_fault(bytes: &[u8]) -> Option<usize>
-    requires { ⌜ 12 ≤ length (now bytes) ⌝ }
-    ensures { λ r. ⌜ r ≡ fieldsFault (now (bytes .entry)) ⌝ }
-{
-    if byte_at(bytes, 0) != 1 {
+    let [version, r3, r2, r1, r0, _, _, _, _, _, _, _, ..] = bytes else {
+        return Some(bytes.len());
+    };
+    if *version != 1 {
         return Some(0);
     }
-    if long_at(bytes, 1) as usize != bytes.len() - 5 {
+    if u32::from_be_bytes([*r3, *r2, *r1, *r0]) as usize != bytes.len() - 5 {
         return Some(1);
     }
     let header = Header::read(bytes);
@@ -88,14 +77,4 @@ fn fields_fault(bytes: &[u8]) -> Option<usize>
         return Some(12);
     }
     items_fault(bytes, header)
-}
-
-// The first field of some bytes that breaks a rule.
-pub(crate) fn image_fault(bytes: &[u8]) -> Option<usize>
-    ensures { λ r. ⌜ r ≡ fault (now (bytes .entry)) ⌝ }
-{
-    if bytes.len() < 12 {
-        return Some(bytes.len());
-    }
-    fields_fault(bytes)
 }

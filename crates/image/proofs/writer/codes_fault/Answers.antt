@@ -2,7 +2,7 @@ use Prim.Native.Nat.{_+_, _*_}
 use mathlib.Core.Path.{sym, _∙_}
 use native.Mathlib.Omega.{arith}
 use Rattle.fields.proofs.Faults.{list-more, list-found, list-all}
-use Rattle.image.specs.Format.{codeFault}
+use Rattle.image.specs.Rules.{codeFault}
 use Rattle.image.proofs.writer.codes_fault.Needs as need
 
 pub loop-state-again : need.loop-state-again

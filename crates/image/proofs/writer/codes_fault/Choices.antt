@@ -2,7 +2,7 @@ use Prim.Native.Nat.{_+_, _*_}
 use mathlib.Core.Path.{_≡_}
 use lib.ListN.{drop}
 use Rattle.fields.specs.Fields.{eachFault}
-use Rattle.image.specs.Format.{codeFault}
+use Rattle.image.specs.Rules.{codeFault}
 use Rattle.image.proofs.writer.codes_fault.Given as given
 
 -- no code so far has a fault

@@ -3,7 +3,8 @@ use mathlib.Core.Path.{_≡_}
 use mathlib.Core.List.{map}
 use lib.ListN.{drop}
 use Rattle.fields.specs.Fields.{eachFault}
-use Rattle.image.specs.Format.{rawFault, rawOf}
+use Rattle.image.specs.Format.{rawOf}
+use Rattle.image.specs.Rules.{rawFault}
 use Rattle.image.proofs.writer.entries_fault.Given as given
 
 -- no entry so far has a fault

@@ -1,6 +1,7 @@
 use mathlib.Core.Path.{sym, ap, _∙_}
 use native.Mathlib.Omega.{arith}
-use Rattle.image.specs.Format.{Parts, partsFrom, fault, decode}
+use Rattle.image.specs.Format.{Parts, decode, partsFrom}
+use Rattle.image.specs.Rules.{fault}
 use Rattle.image.proofs.Packs.{packed-answer, packed-after, written-encode, packed-front}
 use Rattle.image.proofs.PartsBack.{parts-back}
 use Rattle.image.proofs.writer.pack.Needs as need

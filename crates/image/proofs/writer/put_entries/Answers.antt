@@ -1,7 +1,7 @@
 use mathlib.Core.Path.{refl, sym, ap, _∙_}
 use native.Mathlib.Omega.{arith}
 use Rattle.fields.proofs.Writes.{written-none, turn, turned}
-use Rattle.image.specs.Format.{rawBytes, entryBytes}
+use Rattle.image.specs.Format.{entryBytes, rawBytes}
 use Rattle.image.proofs.writer.put_entries.Needs as need
 
 pub loop-index-holds : need.loop-index-holds

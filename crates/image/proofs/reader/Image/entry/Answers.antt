@@ -9,7 +9,7 @@ use Rattle.std.proofs.shelf.Lists.{length-map}
 use Rattle.std.proofs.shelf.Maps.{nth-past}
 use Rattle.fields.specs.Fields.{word}
 use Rattle.image.specs.declared.reader.Header.{Header}
-use Rattle.image.specs.Format.{codeAt, rowAt, rowsIn, entryFrom, decode}
+use Rattle.image.specs.Format.{codeAt, decode, entryFrom, rawAt, rawsIn}
 use Rattle.image.proofs.Items.{nth-made, nth-map}
 use Rattle.image.proofs.reader.Image.entry.Needs as need
 
@@ -19,10 +19,10 @@ returns-then-index-header c =
     let i = c .args .index in
     let says = c .header-header .ensures in
     let states = ap (λ (h : Header). h .states) says ∙ length-map-counting (codeAt bs) 0 (word bs 6) in
-    let entries = ap (λ (h : Header). h .entries) says ∙ length-map (rowsIn bs) entryFrom in
-    let there = nth-made (rowAt bs (word bs 6)) (word bs 10) i (omega (arith, entries)) in
-    ap Some (c .entry .ensures ∙ ap entryFrom (c .read .ensures ∙ ap (λ (n : ℕ). rowAt bs n i) states))
-    ∙ sym (nth-map entryFrom (rowsIn bs) i ∙ ap (mapped entryFrom) there)
+    let entries = ap (λ (h : Header). h .entries) says ∙ length-map (rawsIn bs) entryFrom in
+    let there = nth-made (rawAt bs (word bs 6)) (word bs 10) i (omega (arith, entries)) in
+    ap Some (c .entry .ensures ∙ ap entryFrom (c .read .ensures ∙ ap (λ (n : ℕ). rawAt bs n i) states))
+    ∙ sym (nth-map entryFrom (rawsIn bs) i ∙ ap (mapped entryFrom) there)
 
 pub returns-else-index-header : need.returns-else-index-header
 returns-else-index-header c =

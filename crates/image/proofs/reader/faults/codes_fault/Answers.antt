@@ -2,7 +2,8 @@ use Prim.Native.Nat.{_+_, _*_}
 use mathlib.Core.Path.{_≡_, sym, _∙_, ap}
 use native.Mathlib.Omega.{arith}
 use Rattle.fields.proofs.Faults.{each-more, each-found, each-all}
-use Rattle.image.specs.Format.{codeAt, codeFault}
+use Rattle.image.specs.Format.{codeAt}
+use Rattle.image.specs.Rules.{codeFault}
 use Rattle.image.proofs.reader.faults.codes_fault.Needs as need
 
 pub loop-state-again : need.loop-state-again

@@ -4,7 +4,8 @@ use mathlib.Core.List.{map}
 use lib.ListN.{drop}
 use Rattle.std.specs.Iters.{counting}
 use Rattle.fields.specs.Fields.{eachFault}
-use Rattle.image.specs.Format.{codeAt, codeFault}
+use Rattle.image.specs.Format.{codeAt}
+use Rattle.image.specs.Rules.{codeFault}
 use Rattle.image.proofs.reader.faults.codes_fault.Given as given
 
 -- no code so far has a fault

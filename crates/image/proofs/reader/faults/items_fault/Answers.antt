@@ -6,7 +6,8 @@ use Rattle.std.specs.Options.{isSome}
 use Rattle.std.proofs.shelf.Counted.{length-map-counting}
 use Rattle.fields.specs.Fields.{eachFault}
 use Rattle.fields.proofs.Faults.{passed}
-use Rattle.image.specs.Format.{codeAt, rowAt, codeFault, rawFault}
+use Rattle.image.specs.Format.{codeAt, rawAt}
+use Rattle.image.specs.Rules.{codeFault, rawFault}
 use Rattle.image.proofs.reader.faults.items_fault.Needs as need
 
 pub returns : need.returns
@@ -17,6 +18,6 @@ returns c =
     let long = length-map-counting (codeAt bs) 0 n in
     let codes = c .codes-fault-fault .ensures ∙ ap (λ (k : ℕ). eachFault (codeFault k) 2 12 (map (codeAt bs) (counting 0 n))) power in
     sym (passed _ _ (ap isSome (sym codes) ∙ sym (c .if-is-some .ensures tt))
-    ∙ (ap (λ (k : ℕ). eachFault (rawFault (2 ^ c .args .header .width)) 9 (12 + 2 * k) (map (rowAt bs n) (counting 0 (c .args .header .entries)))) long
-    ∙ (ap (λ (k : ℕ). eachFault (rawFault k) 9 (12 + 2 * n) (map (rowAt bs n) (counting 0 (c .args .header .entries)))) (sym power)
+    ∙ (ap (λ (k : ℕ). eachFault (rawFault (2 ^ c .args .header .width)) 9 (12 + 2 * k) (map (rawAt bs n) (counting 0 (c .args .header .entries)))) long
+    ∙ (ap (λ (k : ℕ). eachFault (rawFault k) 9 (12 + 2 * n) (map (rawAt bs n) (counting 0 (c .args .header .entries)))) (sym power)
     ∙ sym (c .entries-fault .ensures))))

@@ -17,7 +17,8 @@ use Rattle.ternary.proofs.EntryLaws.{entry-same}
 use Rattle.fields.specs.Fields.{check}
 use Rattle.fields.proofs.Faults.{both-pass, check-pass}
 use Rattle.image.specs.declared.raw.RawEntry.{RawEntry}
-use Rattle.image.specs.Format.{rawOf, entryFrom, rawBytes, entryBytes, rawFault, clear}
+use Rattle.image.specs.Format.{entryBytes, entryFrom, rawBytes, rawOf}
+use Rattle.image.specs.Rules.{clear, rawFault}
 
 -- what fields with no fault keep
 pub record Kept (limit : ℕ) (f : RawEntry) : Type 0 where
@@ -51,8 +52,8 @@ entries-again [] = refl
 entries-again (e ∷ es) = λ i. entry-again e i ∷ entries-again es i
 
 -- the fields of the entry with some fields are those fields
-pub row-again : (limit : ℕ) (f : RawEntry) → Kept limit f → rawOf (entryFrom f) ≡ f
-row-again limit f k = λ i. record {
+pub raw-again : (limit : ℕ) (f : RawEntry) → Kept limit f → rawOf (entryFrom f) ≡ f
+raw-again limit f k = λ i. record {
   «code_value» = k .code-clear i;
   «code_mask» = f .«code_mask»;
   «byte_value» = k .byte-clear i;
@@ -61,9 +62,9 @@ row-again limit f k = λ i. record {
   class = f .class;
 }
 
-pub rows-again : (limit : ℕ) (fs : List RawEntry) → All (Kept limit) fs → map rawOf (map entryFrom fs) ≡ fs
-rows-again limit [] all = refl
-rows-again limit (f ∷ fs) all = λ i. row-again limit f (all .0) i ∷ rows-again limit fs (all .1) i
+pub raws-again : (limit : ℕ) (fs : List RawEntry) → All (Kept limit) fs → map rawOf (map entryFrom fs) ≡ fs
+raws-again limit [] all = refl
+raws-again limit (f ∷ fs) all = λ i. raw-again limit f (all .0) i ∷ raws-again limit fs (all .1) i
 
 -- the bytes of entries are the bytes of their fields
 pub entry-bytes : (es : List Entry) → joined entryBytes es ≡ joined rawBytes (map rawOf es)
@@ -71,5 +72,5 @@ entry-bytes [] = refl
 entry-bytes (e ∷ es) = ap (λ (l : List ℕ). entryBytes e ++ l) (entry-bytes es)
 
 -- the fields of the entry at a place
-pub row-at : (es : List Entry) (i : ℕ) (e : Entry) → i < length es → e ≡ getD es i e → rawOf e ≡ getD (map rawOf es) i (rawOf e)
-row-at es i e lt is = ap rawOf is ∙ sym (getD-map rawOf es i e (rawOf e) lt)
+pub raw-at : (es : List Entry) (i : ℕ) (e : Entry) → i < length es → e ≡ getD es i e → rawOf e ≡ getD (map rawOf es) i (rawOf e)
+raw-at es i e lt is = ap rawOf is ∙ sym (getD-map rawOf es i e (rawOf e) lt)
