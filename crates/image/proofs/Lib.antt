@@ -3,3 +3,4 @@ pub mod Items
 pub mod Packs
 pub mod PartsBack
 pub mod Raws
+pub mod Verdicts

@@ -1,10 +1,12 @@
 ghost use mathlib.Core.Path.{_≡_};
 ghost use Prim.Native.Nat.{ℕ, _^_, _<_};
+ghost use Rattle.ternary.specs.Refusals.{verdict};
 ghost use Rattle.image.specs.Format.{entryFrom, fieldsAt, rawBytes, rawOf};
 ghost use Rattle.image.specs.Rules.{rawFault};
 use fields::byte_at;
 use fields::word_at;
 use ternary::entry::Entry;
+use ternary::refusal::Refusal;
 use ternary::words::StateCode;
 
 // The fields of an entry as they stand in an image, whether or not they keep the rules.
@@ -82,21 +84,21 @@ impl RawEntry {
         ]
     }
 
-    // The first field that breaks a rule, where codes are below `limit` and the fields stand at `at`.
-    pub(crate) fn fault(self, limit: u32, at: usize) -> Option<usize>
+    // Refuses the first of these fields, from `at` on, that breaks a rule.
+    pub(crate) fn check(self, limit: u32, at: usize) -> Result<(), Refusal>
         requires { ⌜ at < 2 ^ 32 ⌝ }
-        ensures { λ r. ⌜ r ≡ rawFault limit at self ⌝ }
+        ensures { λ r. ⌜ r ≡ verdict (rawFault limit at self) ⌝ }
     {
         if self.code_value as u32 >= limit || self.code_value & self.code_mask != self.code_value {
-            Some(at)
+            Err(Refusal::Malformed(at))
         } else if self.code_mask as u32 >= limit {
-            Some(at + 2)
+            Err(Refusal::Malformed(at + 2))
         } else if self.byte_value & self.byte_mask != self.byte_value {
-            Some(at + 4)
+            Err(Refusal::Malformed(at + 4))
         } else if self.next.0 as u32 >= limit {
-            Some(at + 6)
+            Err(Refusal::Malformed(at + 6))
         } else {
-            None
+            Ok(())
         }
     }
 }

@@ -9,6 +9,7 @@ ghost use Rattle.image.specs.Calls.{Accepted, headerIn, headerOf, partsOf};
 ghost use Rattle.image.specs.Format.{codeAt};
 ghost use Rattle.image.specs.Rules.{fault};
 use crate::raw::RawEntry;
+use crate::reader::checks::check_image;
 use fields::byte_at;
 use fields::word_at;
 use ternary::entry::Entry;
@@ -18,7 +19,7 @@ use ternary::words::StateNo;
 use ternary::words::StateNoDebug;
 use ternary::words::StateNoPartialEq;
 
-mod faults;
+mod checks;
 
 // The fields of an image before its codes: the code width, the number of states, the start state and
 // the number of entries.
@@ -95,8 +96,6 @@ pub(crate) fn code_at(bytes: &[u8], state: usize) -> StateCode
 pub fn unpack(bytes: &[u8]) -> Result<Image<'_>, Refusal>
     ensures { λ r. ⌜ Cases r (λ image. Accepted (now (bytes .entry)) image) (λ refusal. mapped Malformed (fault (now (bytes .entry))) ≡ Some refusal) ⌝ }
 {
-    match faults::image_fault(bytes) {
-        Some(at) => Err(Refusal::Malformed(at)),
-        None => Ok(Image { bytes }),
-    }
+    check_image(bytes)?;
+    Ok(Image { bytes })
 }

@@ -1,39 +1,41 @@
 ghost use mathlib.Core.Path.{_≡_};
 ghost use Prim.Native.Nat.{ℕ, _^_, _≤_};
+ghost use Rattle.ternary.specs.Refusals.{verdict};
 ghost use Rattle.image.specs.Rules.{codeFault, headerFault};
+use ternary::refusal::Refusal;
 use ternary::words::StateCode;
 use ternary::words::StateNo;
 
-// The first field of the header after its length that breaks a rule.
-pub(crate) fn header_fault(
+// Refuses the first field of the header after its length that breaks a rule.
+pub(crate) fn check_header(
     width: u8,
     states: usize,
     start: StateNo,
     entries: usize,
-) -> Option<usize>
-    ensures { λ r. ⌜ r ≡ headerFault width states (start .0) entries ⌝ }
+) -> Result<(), Refusal>
+    ensures { λ r. ⌜ r ≡ verdict (headerFault width states (start .0) entries) ⌝ }
 {
     if width > 16 {
-        Some(5)
+        Err(Refusal::Malformed(5))
     } else if states < 1 || states > 512 {
-        Some(6)
+        Err(Refusal::Malformed(6))
     } else if start.0 as usize >= states {
-        Some(8)
+        Err(Refusal::Malformed(8))
     } else if entries > 4096 {
-        Some(10)
+        Err(Refusal::Malformed(10))
     } else {
-        None
+        Ok(())
     }
 }
 
-// The fault of a code that stands at `at`, where codes are below `limit`.
-pub(crate) fn code_fault(limit: u32, at: usize, code: StateCode) -> Option<usize>
-    ensures { λ r. ⌜ r ≡ codeFault limit at code ⌝ }
+// Refuses a code at `at` that is not below the limit.
+pub(crate) fn check_code(code: StateCode, limit: u32, at: usize) -> Result<(), Refusal>
+    ensures { λ r. ⌜ r ≡ verdict (codeFault limit at code) ⌝ }
 {
     if code.0 as u32 >= limit {
-        Some(at)
+        Err(Refusal::Malformed(at))
     } else {
-        None
+        Ok(())
     }
 }
 

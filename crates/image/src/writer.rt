@@ -5,62 +5,56 @@ ghost use lib.ListN.{length, take};
 ghost use Rattle.std.specs.Joined.{joined};
 ghost use Rattle.std.specs.Vec.{made};
 ghost use Rattle.std.specs.declared.option.Option.the-variants.{None};
+ghost use Rattle.ternary.specs.Refusals.{verdict};
 ghost use Rattle.fields.specs.Fields.{written, eachFault};
 ghost use Rattle.image.specs.Calls.{packAfter, packAnswer};
 ghost use Rattle.image.specs.Format.{codeBytes, decode, entryBytes, headerBytes, partsFrom, rawOf};
 ghost use Rattle.image.specs.Rules.{codeFault, fault, partsFault, rawFault};
 use crate::raw::RawEntry;
-use crate::rules::code_fault;
+use crate::rules::check_code;
+use crate::rules::check_header;
 use crate::rules::code_limit;
-use crate::rules::header_fault;
 use ternary::entry::Entry;
 use ternary::refusal::Refusal;
 use ternary::words::StateCode;
 use ternary::words::StateNo;
 
-// The first fault that the codes would have in an image.
-fn codes_fault(codes: &[StateCode], limit: u32) -> Option<usize>
+// Refuses the first code that would break a rule in an image.
+fn check_codes(codes: &[StateCode], limit: u32) -> Result<(), Refusal>
     requires { ⌜ length (now codes) ≤ 512 ⌝ }
-    ensures { λ r. ⌜ r ≡ eachFault (codeFault limit) 2 12 (now (codes .entry)) ⌝ }
+    ensures { λ r. ⌜ r ≡ verdict (eachFault (codeFault limit) 2 12 (now (codes .entry))) ⌝ }
 {
     for (state, code) in codes.iter().enumerate() {
-        let fault = code_fault(limit, 12 + 2 * state, *code);
-        if fault.is_some() {
-            return fault;
-        }
+        check_code(*code, limit, 12 + 2 * state)?;
     }
-    None
+    Ok(())
 }
 
-// The first fault that the entries would have in an image, from `at` on.
-fn entries_fault(entries: &[Entry], limit: u32, at: usize) -> Option<usize>
+// Refuses the first field of the entries, from `at` on, that would break a rule in an image.
+fn check_entries(entries: &[Entry], limit: u32, at: usize) -> Result<(), Refusal>
     requires count { ⌜ length (now entries) ≤ 4096 ⌝ }
     requires small { ⌜ at < 2 ^ 31 ⌝ }
-    ensures { λ r. ⌜ r ≡ eachFault (rawFault limit) 9 at (map rawOf (now (entries .entry))) ⌝ }
+    ensures { λ r. ⌜ r ≡ verdict (eachFault (rawFault limit) 9 at (map rawOf (now (entries .entry)))) ⌝ }
 {
     for (index, entry) in entries.iter().enumerate() {
-        let fault = RawEntry::of(entry).fault(limit, at + 9 * index);
-        if fault.is_some() {
-            return fault;
-        }
+        RawEntry::of(entry).check(limit, at + 9 * index)?;
     }
-    None
+    Ok(())
 }
 
-// The first field that would break a rule in the image of these parts.
-fn parts_fault(width: u8, start: StateNo, codes: &[StateCode], entries: &[Entry]) -> Option<usize>
-    ensures { λ r. ⌜ r ≡ partsFault (partsFrom width start (now (codes .entry)) (now (entries .entry))) ⌝ }
+// Refuses the first field that would break a rule in the image of these parts.
+fn check_parts(
+    width: u8,
+    start: StateNo,
+    codes: &[StateCode],
+    entries: &[Entry],
+) -> Result<(), Refusal>
+    ensures { λ r. ⌜ r ≡ verdict (partsFault (partsFrom width start (now (codes .entry)) (now (entries .entry)))) ⌝ }
 {
-    let fault = header_fault(width, codes.len(), start, entries.len());
-    if fault.is_some() {
-        return fault;
-    }
+    check_header(width, codes.len(), start, entries.len())?;
     let limit = code_limit(width);
-    let fault = codes_fault(codes, limit);
-    if fault.is_some() {
-        return fault;
-    }
-    entries_fault(entries, limit, 12 + 2 * codes.len())
+    check_codes(codes, limit)?;
+    check_entries(entries, limit, 12 + 2 * codes.len())
 }
 
 // The bytes before the codes.
@@ -117,9 +111,7 @@ pub fn pack(
     ensures after { λ _. ⌜ now (out .exit) ≡ packAfter (partsFrom width start (now (codes .entry)) (now (entries .entry))) (now (out .entry)) ⌝ }
     ensures back { λ r. ⌜ made r (λ size. (fault (take size (now (out .exit))) ≡ None) × (decode (take size (now (out .exit))) ≡ partsFrom width start (now (codes .entry)) (now (entries .entry)))) ⌝ }
 {
-    if let Some(at) = parts_fault(width, start, codes, entries) {
-        return Err(Refusal::Malformed(at));
-    }
+    check_parts(width, start, codes, entries)?;
     let states = codes.len();
     let size = 12 + 2 * states + 9 * entries.len();
     if out.len() < size {

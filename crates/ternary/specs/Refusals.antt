@@ -48,3 +48,7 @@ values (WrongEntry s b) = s .0 ∷ b ∷ []
 abbrev pub refuseOr : {X : Type 0} → Option ℕ → Result X Refusal → Result X Refusal
 refuseOr None answer = answer
 refuseOr (Some at) answer = Err (Malformed at)
+
+-- the answer of a check: refused with the offset of its fault, or passed
+abbrev pub verdict : Option ℕ → Result (Unit {0}) Refusal
+verdict fault = refuseOr fault (Ok tt)

@@ -6,7 +6,7 @@ use Rattle.std.specs.Iters.{counting}
 use Rattle.fields.specs.Fields.{eachFault}
 use Rattle.image.specs.Format.{rawAt}
 use Rattle.image.specs.Rules.{rawFault}
-use Rattle.image.proofs.reader.faults.entries_fault.Given as given
+use Rattle.image.proofs.reader.checks.check_entries.Given as given
 
 -- no entry so far has a fault
 abbrev pub Inv-loop-index : given.InvT-loop-index

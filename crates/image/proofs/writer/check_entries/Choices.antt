@@ -5,7 +5,7 @@ use lib.ListN.{drop}
 use Rattle.fields.specs.Fields.{eachFault}
 use Rattle.image.specs.Format.{rawOf}
 use Rattle.image.specs.Rules.{rawFault}
-use Rattle.image.proofs.writer.entries_fault.Given as given
+use Rattle.image.proofs.writer.check_entries.Given as given
 
 -- no entry so far has a fault
 abbrev pub Inv-loop-index : given.InvT-loop-index

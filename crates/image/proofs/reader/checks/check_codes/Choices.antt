@@ -6,7 +6,7 @@ use Rattle.std.specs.Iters.{counting}
 use Rattle.fields.specs.Fields.{eachFault}
 use Rattle.image.specs.Format.{codeAt}
 use Rattle.image.specs.Rules.{codeFault}
-use Rattle.image.proofs.reader.faults.codes_fault.Given as given
+use Rattle.image.proofs.reader.checks.check_codes.Given as given
 
 -- no code so far has a fault
 abbrev pub Inv-loop-state : given.InvT-loop-state

@@ -3,7 +3,7 @@ use mathlib.Core.Path.{_≡_}
 use lib.ListN.{drop}
 use Rattle.fields.specs.Fields.{eachFault}
 use Rattle.image.specs.Rules.{codeFault}
-use Rattle.image.proofs.writer.codes_fault.Given as given
+use Rattle.image.proofs.writer.check_codes.Given as given
 
 -- no code so far has a fault
 abbrev pub Inv-loop-state : given.InvT-loop-state
