@@ -1,5 +1,5 @@
 -- The parts of an image with no fault keep the rules and pack to the same bytes.
-use mathlib.Core.Path.{_≡_, refl, sym, ap, _∙_}
+use mathlib.Core.Path.{_≡_, sym, ap, _∙_}
 use mathlib.Core.List.{List, [], _∷_, _++_, map}
 use mathlib.Core.Bool.{false}
 use Prim.Native.Nat.{ℕ, _+_, _*_, _-_, _^_, _≤_, _<_}
@@ -20,8 +20,7 @@ use Rattle.std.proofs.shelf.Tests.{leb-true, eqb-true}
 use Rattle.fields.specs.Fields.{word, long, be16, be32, check, orElse, eachFault}
 use Rattle.fields.proofs.Bytes.{be16-read, be32-read, joined-made}
 use Rattle.fields.proofs.Faults.{both-pass, check-pass, none-from, each-pass}
-use Rattle.image.specs.declared.raw.RawEntry.{RawEntry}
-use Rattle.image.specs.Format.{codeAt, codeBytes, codesIn, decode, encode, entryBytes, entryFrom, fieldsAt, headerBytes, rawAt, rawBytes, rawOf, rawsIn, size}
+use Rattle.image.specs.Format.{codeAt, codeBytes, codesIn, decode, encode, entryFrom, headerBytes, rawAt, rawBytes, rawsIn, size}
 use Rattle.image.specs.Rules.{codeFault, fault, headerFault, itemsFault, partsFault, rawFault}
 use Rattle.image.proofs.Raws.{Kept, kept, raws-again, entry-bytes}
 

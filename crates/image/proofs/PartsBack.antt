@@ -1,66 +1,34 @@
 -- The image of parts that keep the rules has no fault and says those parts.
 use mathlib.Core.Path.{_≡_, refl, sym, ap, _∙_}
 use mathlib.Core.List.{List, [], _++_, map, append-nil, append-assoc}
-use mathlib.Core.Bool.{_&&_}
 use Prim.Native.Nat.{ℕ, _+_, _*_, _-_, _/_, _%_, _^_, _≤_, _<_}
 use native.Mathlib.Omega.{arith}
-use lib.Dec.{eqb, ltb, leb}
+use lib.Dec.{eqb, leb}
 use lib.ListN.{length, getD, length-append}
 use lib.Pow.{pow-mono}
 use Rattle.std.specs.Iters.{counting}
 use Rattle.std.specs.Joined.{joined}
 use Rattle.std.specs.Options.{isSome}
-use Rattle.std.specs.shelf.Lists.{All}
 use Rattle.std.specs.declared.option.Option.{Option}
 use Rattle.std.specs.declared.option.Option.the-variants.{None}
 use Rattle.std.proofs.shelf.Counted.{fill-by-all}
 use Rattle.std.proofs.shelf.Elements.{all-getD}
 use Rattle.std.proofs.shelf.Lists.{length-map}
-use Rattle.std.proofs.shelf.Tests.{leb-true, ltb-true, and-parts, eq-eqb, le-leb}
+use Rattle.std.proofs.shelf.Tests.{eq-eqb, le-leb}
 use Rattle.ternary.specs.declared.words.StateCode.{StateCode}
-use Rattle.fields.specs.Fields.{word, long, orElse, check, eachFault}
+use Rattle.fields.specs.Fields.{word, long, orElse, check}
 use Rattle.fields.proofs.Bytes.{be16-back, be32-back, byte-of-item}
-use Rattle.fields.proofs.Faults.{both-pass, check-pass, none-from, pass, each-pass}
+use Rattle.fields.proofs.Faults.{both-pass, none-from, pass}
 use Rattle.fields.proofs.Writes.{length-joined}
 use Rattle.image.specs.declared.raw.RawEntry.{RawEntry}
 use Rattle.image.specs.Format.{Parts, codeAt, codeBytes, codesIn, decode, encode, entryBytes, entryFrom, fieldsAt, rawAt, rawBytes, rawOf, rawsIn, size}
-use Rattle.image.specs.Rules.{codeFault, fault, headerFault, itemsFault, partsFault, rawFault}
+use Rattle.image.specs.Rules.{fault, headerFault, itemsFault, partsFault}
 use Rattle.image.proofs.Packs.{headOf, length-encode}
-use Rattle.image.proofs.Raws.{Kept, kept, entries-again, entry-bytes}
-
--- the rules that parts keep, as facts
-record Ruled (p : Parts) : Type 0 where
-  wide : p .width ≤ 16
-  states : length (p .codes) ≤ 512
-  start : p .start .0 < 512
-  entries : length (p .entries) ≤ 4096
-  code : All (λ c. c .0 < 65536) (p .codes)
-  raw : All (Kept (2 ^ p .width)) (map rawOf (p .entries))
+use Rattle.image.proofs.Raws.{Kept, entries-again, entry-bytes}
+use Rattle.image.proofs.Ruled.{Ruled, ruled}
 
 below-limit : (w x : ℕ) → w ≤ 16 → x < 2 ^ w → x < 65536
 below-limit w x h lt = let top : 2 ^ w ≤ 2 ^ 16 = pow-mono h in omega arith
-
-ruled : (p : Parts) → partsFault p ≡ None → Ruled p
-ruled p none =
-    let n : ℕ = length (p .codes) in
-    let m : ℕ = length (p .entries) in
-    let raws : List RawEntry = map rawOf (p .entries) in
-    let all = both-pass (headerFault (p .width) n (p .start .0) m) (itemsFault (p .width) (p .codes) raws) (ap isSome none) in
-    let a = both-pass (check (leb (p .width) 16) 5) _ (all .0) in
-    let b = both-pass (check (leb 1 n && leb n 512) 6) _ (a .1) in
-    let d = both-pass (check (ltb (p .start .0) n) 8) _ (b .1) in
-    let e = both-pass (check (leb m 4096) 10) None (d .1) in
-    let wide : p .width ≤ 16 = leb-true (p .width) 16 (check-pass _ _ (a .0)) in
-    let states : n ≤ 512 = leb-true n 512 (and-parts (leb 1 n) (leb n 512) (check-pass _ _ (b .0)) .1) in
-    let items = both-pass (eachFault (codeFault (2 ^ p .width)) 2 12 (p .codes)) (eachFault (rawFault (2 ^ p .width)) 9 (12 + 2 * n) raws) (all .1) in
-    record {
-      wide = wide;
-      states = states;
-      start = omega (arith, ltb-true (p .start .0) n (check-pass _ _ (d .0)));
-      entries = leb-true m 4096 (check-pass _ _ (e .0));
-      code = each-pass (λ c. c .0 < 65536) (codeFault (2 ^ p .width)) 2 (λ at c h. below-limit (p .width) (c .0) wide (ltb-true (c .0) (2 ^ p .width) (check-pass _ _ h))) 12 (p .codes) (items .0);
-      raw = each-pass (Kept (2 ^ p .width)) (rawFault (2 ^ p .width)) 9 (kept (2 ^ p .width)) (12 + 2 * n) raws (items .1);
-    }
 
 module _ (p : Parts) (rules : Ruled p) where
   code-read : (k : ℕ) (d : StateCode) → k < length (p .codes) → getD (p .codes) k d ≡ codeAt (encode p) k
@@ -70,7 +38,7 @@ module _ (p : Parts) (rules : Ruled p) where
       λ j at lt e. byte-of-item codeBytes 2 (λ _. refl) (headOf p) (joined entryBytes (p .entries)) (p .codes) k j at d h lt e in
       let high : getD (encode p) (12 + 2 * k) 0 ≡ c .0 / 256 % 256 = read 0 (12 + 2 * k) (omega arith) (omega arith) in
       let low : getD (encode p) (12 + 2 * k + 1) 0 ≡ c .0 % 256 = read 1 (12 + 2 * k + 1) (omega arith) (omega arith) in
-      let fits : c .0 < 65536 = all-getD (λ (x : StateCode). x .0 < 65536) (p .codes) k d h (rules .code) in
+      let fits : c .0 < 65536 = below-limit (p .width) (c .0) (rules .wide) (all-getD (λ (x : StateCode). x .0 < 2 ^ p .width) (p .codes) k d h (rules .code)) in
       let back : c .0 ≡ word (encode p) (12 + 2 * k) = sym (be16-back (c .0) fits) ∙ (λ i. sym high i * 256 + sym low i) in
       λ i. record { 0 = back i }
 
@@ -113,7 +81,7 @@ module _ (p : Parts) (rules : Ruled p) where
   n-is = be16-back (length (p .codes)) (omega (arith, rules .states))
 
   start-is : word (encode p) 8 ≡ p .start .0
-  start-is = be16-back (p .start .0) (omega (arith, rules .start))
+  start-is = be16-back (p .start .0) (omega (arith, rules .start, rules .states))
 
   m-is : word (encode p) 10 ≡ length (p .entries)
   m-is = be16-back (length (p .entries)) (omega (arith, rules .entries))

@@ -1,6 +1,6 @@
 ghost use mathlib.Core.Path.{_≡_};
 ghost use mathlib.Core.List.{map};
-ghost use Prim.Native.Nat.{ℕ, _+_, _*_, _≤_};
+ghost use Prim.Native.Nat.{_+_, _*_, _≤_};
 ghost use Rattle.std.specs.Iters.{counting};
 ghost use Rattle.ternary.specs.Refusals.{verdict};
 ghost use Rattle.fields.specs.Fields.{eachFault};
