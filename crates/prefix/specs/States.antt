@@ -1,0 +1,30 @@
+-- The rows of an automaton, whose decisions are states. Assumes nothing.
+use mathlib.Core.List.{List}
+use mathlib.Core.Bool.{Bool, false}
+use Prim.Native.Nat.{ℕ}
+use lib.Dec.{eqb}
+use lib.ListN.{getD}
+use Rattle.std.specs.declared.option.Option.{Option}
+use Rattle.std.specs.declared.option.Option.the-variants.{Some, None}
+use Rattle.ternary.specs.declared.words.StateNo.{StateNo}
+
+-- the state of that number
+abbrev pub stateNo : ℕ → StateNo
+stateNo n = record { 0 = n }
+
+-- the successor of each byte
+abbrev pub successors : List StateNo → ℕ → StateNo
+successors row byte = getD row byte (stateNo 0)
+
+-- a byte may be deferred exactly where there is a row to defer to and both rows have the same successor for it
+abbrev pub deferrable : List StateNo → Option (List StateNo) → ℕ → Bool
+deferrable row None byte = false
+deferrable row (Some other) byte = eqb (successors row byte .0) (successors other byte .0)
+
+-- a row by the numbers of its states
+abbrev pub numbers : List ℕ → ℕ → ℕ
+numbers row byte = getD row byte 0
+
+-- bytes that are marked one by one
+abbrev pub flags : List Bool → ℕ → Bool
+flags marked byte = getD marked byte false
