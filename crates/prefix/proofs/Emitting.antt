@@ -19,7 +19,7 @@ use Rattle.prefix.specs.Tree.{Tree, leaf, node, has, common, either, base, lea
 use Rattle.prefix.specs.Row.{build, subtree, placed}
 use Rattle.prefix.specs.Cells.{part, cells, splits, Ends, Emitted}
 use Rattle.prefix.specs.Reading.{Reads, lowHalf, highHalf}
-use Rattle.prefix.specs.Listed.{stated, treeAt, wordsUnder, wordsAt}
+use Rattle.prefix.specs.Listed.{stated, wordFor, treeAt, wordsUnder, wordsAt}
 use Rattle.prefix.specs.States.{stateNo}
 use Rattle.prefix.proofs.Halves.{some-candidate}
 use Rattle.prefix.proofs.Memory.{cell-of-part}
@@ -102,10 +102,6 @@ module _ (row : ℕ → ℕ) (deferrable : ℕ → Bool) (P : ℕ → Type 0) (e
 
   each-best : (bits v : ℕ) → P (best eqb 0 (subtree row deferrable bits v))
   each-best bits v = all-first (candidates eqb (subtree row deferrable bits v)) (some-candidate eqb (subtree row deferrable bits v)) (all-candidates (8 - bits) v)
-
--- a word for the bytes of a place
-abbrev pub wordFor : Place → ℕ → PrefixWord StateNo
-wordFor p e = record { bits = p .bits; value = p .value; next = stateNo e }
 
 -- a subtree of two halves, once it is read
 pub record Opened (row : ℕ → ℕ) (deferrable : ℕ → Bool) (work : List ℕ) (p : Place) (n : Node) : Type 0 where

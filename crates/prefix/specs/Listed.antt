@@ -14,6 +14,10 @@ use Rattle.prefix.specs.States.{stateNo}
 abbrev pub stated : PrefixWord ℕ → PrefixWord StateNo
 stated w = record { bits = w .bits; value = w .value; next = stateNo (w .next) }
 
+-- a word for the bytes of a place
+abbrev pub wordFor : Place → ℕ → PrefixWord StateNo
+wordFor p e = record { bits = p .bits; value = p .value; next = stateNo e }
+
 module _ (row : ℕ → ℕ) (deferrable : ℕ → Bool) where
   -- the tree of the place's bytes
   abbrev pub treeAt : Place → Tree ℕ

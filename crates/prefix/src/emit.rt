@@ -3,7 +3,7 @@ ghost use mathlib.Core.List.{[], _∷_, _++_};
 ghost use Prim.Native.Nat.{_+_, _<_, _≤_, _^_};
 ghost use lib.ListN.{length};
 ghost use Rattle.prefix.specs.Cells.{Ends, Emitted};
-ghost use Rattle.prefix.specs.Listed.{treeAt, wordsUnder, wordsAt};
+ghost use Rattle.prefix.specs.Listed.{wordFor, treeAt, wordsUnder, wordsAt};
 ghost use Rattle.prefix.specs.States.{numbers, flags};
 use crate::place::Place;
 use crate::place::read;
@@ -11,16 +11,21 @@ use crate::sets::contains;
 use crate::word::PrefixWord;
 use ternary::words::StateNo;
 
-// Puts a word after the first `used` words, and returns how many there are then.
+// Puts a word for the bytes of a place after the first `used` words, and answers how many there are then.
 pub(crate) fn push(
     out: &mut [PrefixWord<StateNo>; 256],
     used: usize,
-    word: PrefixWord<StateNo>,
+    place: Place,
+    next: u16,
 ) -> usize
     requires { ⌜ used < 256 ⌝ }
-    ensures { λ r. ⌜ Emitted (now (out .entry)) (now (out .exit)) used r (word ∷ []) ⌝ }
+    ensures { λ r. ⌜ Emitted (now (out .entry)) (now (out .exit)) used r (wordFor place next ∷ []) ⌝ }
 {
-    out[used] = word;
+    out[used] = PrefixWord {
+        bits: place.bits,
+        value: place.value,
+        next: StateNo(next),
+    };
     used + 1
 }
 
@@ -39,21 +44,12 @@ pub(crate) fn emit_under(
     requires room { ⌜ used + length (wordsUnder (numbers (now row)) (flags (now deferrable)) place above) ≤ 256 ⌝ }
     ensures { λ r. ⌜ Emitted (now (out .entry)) (now (out .exit)) used r (wordsUnder (numbers (now (row .entry))) (flags (now (deferrable .entry))) place above) ⌝ }
 {
-    let Place { bits, value, .. } = place;
-    if bits == 8 {
-        let next = row[value as usize];
+    if place.bits == 8 {
+        let next = row[place.value as usize];
         if above == next {
             return used;
         }
-        return push(
-            out,
-            used,
-            PrefixWord {
-                bits,
-                value,
-                next: StateNo(next),
-            },
-        );
+        return push(out, used, place, next);
     }
     let node = read(work, place);
     let first = node.candidates.first;
@@ -65,15 +61,7 @@ pub(crate) fn emit_under(
     let next = work[first] as u16;
     let middle = emit_under(row, deferrable, work, node.low, next, out, used);
     let closing = emit_under(row, deferrable, work, node.high, next, out, middle);
-    push(
-        out,
-        closing,
-        PrefixWord {
-            bits,
-            value,
-            next: StateNo(next),
-        },
-    )
+    push(out, closing, place, next)
 }
 
 // Puts a shortest list of words for a subtree, below no word, after the first `used` words.
@@ -90,38 +78,19 @@ pub(crate) fn emit(
     requires room { ⌜ used + length (wordsAt (numbers (now row)) (flags (now deferrable)) place) ≤ 256 ⌝ }
     ensures { λ r. ⌜ Emitted (now (out .entry)) (now (out .exit)) used r (wordsAt (numbers (now (row .entry))) (flags (now (deferrable .entry))) place) ⌝ }
 {
-    let Place { bits, value, .. } = place;
-    if bits == 8 {
-        let next = row[value as usize];
-        if deferrable[value as usize] {
+    if place.bits == 8 {
+        if deferrable[place.value as usize] {
             return used;
         }
-        return push(
-            out,
-            used,
-            PrefixWord {
-                bits,
-                value,
-                next: StateNo(next),
-            },
-        );
+        return push(out, used, place, row[place.value as usize]);
     }
     let node = read(work, place);
-    let first = node.candidates.first;
     if node.splits {
         let middle = emit(row, deferrable, work, node.low, out, used);
         return emit(row, deferrable, work, node.high, out, middle);
     }
-    let next = work[first] as u16;
-    let middle = emit_under(row, deferrable, work, node.low, next, out, used);
-    let closing = emit_under(row, deferrable, work, node.high, next, out, middle);
-    push(
-        out,
-        closing,
-        PrefixWord {
-            bits,
-            value,
-            next: StateNo(next),
-        },
-    )
+    let covering = work[node.candidates.first] as u16;
+    let half = emit_under(row, deferrable, work, node.low, covering, out, used);
+    let whole = emit_under(row, deferrable, work, node.high, covering, out, half);
+    push(out, whole, place, covering)
 }

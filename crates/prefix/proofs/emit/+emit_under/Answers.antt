@@ -4,9 +4,9 @@ use Prim.Native.Nat.{ℕ, _+_, _-_, _<_}
 use native.Mathlib.Omega.{arith}
 use lib.Dec.{eqb}
 use lib.ListN.{length, getD}
-use Rattle.prefix.specs.Listed.{wordsUnder}
+use Rattle.prefix.specs.Listed.{wordFor, wordsUnder}
 use Rattle.prefix.specs.States.{numbers, flags}
-use Rattle.prefix.proofs.Emitting.{emitted-two, emitted-three, length-two, length-three, value-below, read-within, opened, wordFor}
+use Rattle.prefix.proofs.Emitting.{emitted-two, emitted-three, length-two, length-three, value-below, read-within, opened}
 use Rattle.prefix.proofs.emit.+emit_under.Needs as need
 
 pub read-node-requires : need.read-node-requires
