@@ -56,11 +56,11 @@ module _ (row : ℕ → ℕ) (deferrable : ℕ → Bool) where
   list-formed = formed-redecided stateNo (shortest 0 eqb row deferrable) (formed-shortest 0 eqb row deferrable)
 
   -- they are a shortest list for a row of states with these numbers
-  module _ (states : ℕ → StateNo) (allowed : ℕ → Bool) (same-row : (byte : ℕ) → byte < 256 → row byte ≡ states byte .0) (same-flags : (byte : ℕ) → byte < 256 → deferrable byte ≡ allowed byte) where
-    pub list-shortest : Shortest list states allowed
+  module _ (states : ℕ → StateNo) (same-row : (byte : ℕ) → byte < 256 → row byte ≡ states byte .0) where
+    pub list-shortest : Shortest list states deferrable
     list-shortest =
-        shortest-redecided stateNo (λ s. s .0) row states deferrable allowed (λ byte h. ap stateNo (same-row byte h)) (λ byte h. sym (same-row byte h)) same-flags
+        shortest-redecided stateNo (λ s. s .0) row states deferrable (λ byte h. ap stateNo (same-row byte h)) (λ byte h. sym (same-row byte h))
         (shortest 0 eqb row deferrable) (shortest-stands eqb eqb-true eqb-same 0 row deferrable)
 
-    pub list-fewest : (count : ℕ) → count ≡ least eqb (subtree row deferrable 0 0) → Fewest count states allowed
-    list-fewest count e = fewest list states allowed count list-shortest (e ∙ sym list-length)
+    pub list-fewest : (count : ℕ) → count ≡ least eqb (subtree row deferrable 0 0) → Fewest count states deferrable
+    list-fewest count e = fewest list states deferrable count list-shortest (e ∙ sym list-length)

@@ -30,23 +30,29 @@ module _ {D E : Type 0} (f : D → E) where
   served-redecided own d (Some next) p = ap f p
 
   -- the byte rule holds of the other row
-  rule-redecided : (row : ℕ → D) (row′ : ℕ → E) (d d′ : ℕ → Bool) (ws : List (PrefixWord D))
-      → ((byte : ℕ) → byte < 256 → f (row byte) ≡ row′ byte) → ((byte : ℕ) → byte < 256 → d byte ≡ d′ byte) → ByteRule row d ws → ByteRule row′ d′ (map redecided ws)
-  rule-redecided row row′ d d′ ws rows flags rule byte h =
+  rule-redecided : (row : ℕ → D) (row′ : ℕ → E) (d : ℕ → Bool) (ws : List (PrefixWord D)) → ((byte : ℕ) → byte < 256 → f (row byte) ≡ row′ byte) → ByteRule row d ws → ByteRule row′ d (map redecided ws)
+  rule-redecided row row′ d ws rows rule byte h =
       let P : E → Type 0 = λ own. Served own (d byte) (mapped f (first ws byte)) in
-      let Q : Bool → Type 0 = λ b. Served (row′ byte) b (mapped f (first ws byte)) in
-      rw (first-redecided ws byte) (subst Q (flags byte h) (subst P (rows byte h) (served-redecided (row byte) (d byte) (first ws byte) (rule byte h))))
+      rw (first-redecided ws byte) (subst P (rows byte h) (served-redecided (row byte) (d byte) (first ws byte) (rule byte h)))
 
   pub formed-redecided : (ws : List (PrefixWord D)) → All Formed ws → All Formed (map redecided ws)
   formed-redecided [] p = tt
   formed-redecided (w ∷ ws) p = (p .0, formed-redecided ws (p .1))
 
-module _ {D E : Type 0} (f : D → E) (g : E → D) (row : ℕ → D) (row′ : ℕ → E) (d d′ : ℕ → Bool)
-    (to : (byte : ℕ) → byte < 256 → f (row byte) ≡ row′ byte) (from : (byte : ℕ) → byte < 256 → g (row′ byte) ≡ row byte) (flags : (byte : ℕ) → byte < 256 → d byte ≡ d′ byte) where
-  pub shortest-redecided : (ws : List (PrefixWord D)) → Shortest ws row d → Shortest (map (redecided f) ws) row′ d′
-  shortest-redecided ws s = record {
-    meets = rule-redecided f row row′ d d′ ws to flags (s .meets);
-    least = λ others rule.
-        let k = s .least (map (redecided g) others) (rule-redecided g row′ row d′ d others from (λ byte h. sym (flags byte h)) rule) in
-        omega (arith, k, length-map ws (redecided f), length-map others (redecided g));
-  }
+-- a shortest list stays one, where the decisions of the row can be told back
+pub shortest-redecided : {D E : Type 0} (f : D → E) (g : E → D) (row : ℕ → D) (row′ : ℕ → E) (d : ℕ → Bool)
+    → ((byte : ℕ) → byte < 256 → f (row byte) ≡ row′ byte) → ((byte : ℕ) → byte < 256 → g (row′ byte) ≡ row byte)
+    → (ws : List (PrefixWord D)) → Shortest ws row d → Shortest (map (redecided f) ws) row′ d
+shortest-redecided f g row row′ d to from ws s = record {
+  meets = rule-redecided f row row′ d ws to (s .meets);
+  least = λ others rule.
+      let k = s .least (map (redecided g) others) (rule-redecided g row′ row d others from rule) in
+      omega (arith, k, length-map ws (redecided f), length-map others (redecided g));
+}
+
+-- a shortest list is one for every telling of the same deferrable bytes
+pub shortest-deferrable : {D : Type 0} (row : ℕ → D) (d d′ : ℕ → Bool) (ws : List (PrefixWord D)) → ((byte : ℕ) → byte < 256 → d byte ≡ d′ byte) → Shortest ws row d → Shortest ws row d′
+shortest-deferrable row d d′ ws flags s = record {
+  meets = λ byte h. subst (λ (b : Bool). Served (row byte) b (first ws byte)) (flags byte h) (s .meets byte h);
+  least = λ others rule. s .least others (λ byte h. subst (λ (b : Bool). Served (row byte) b (first others byte)) (sym (flags byte h)) (rule byte h));
+}

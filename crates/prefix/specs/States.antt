@@ -4,8 +4,6 @@ use mathlib.Core.Bool.{Bool, false}
 use Prim.Native.Nat.{ℕ}
 use lib.Dec.{eqb}
 use lib.ListN.{getD}
-use Rattle.std.specs.declared.option.Option.{Option}
-use Rattle.std.specs.declared.option.Option.the-variants.{Some, None}
 use Rattle.ternary.specs.declared.words.StateNo.{StateNo}
 
 -- the state of that number
@@ -16,15 +14,14 @@ stateNo n = record { 0 = n }
 abbrev pub successors : List StateNo → ℕ → StateNo
 successors row byte = getD row byte (stateNo 0)
 
--- a byte may be deferred exactly where there is a row to defer to and both rows have the same successor for it
-abbrev pub deferrable : List StateNo → Option (List StateNo) → ℕ → Bool
-deferrable row None byte = false
-deferrable row (Some other) byte = eqb (successors row byte .0) (successors other byte .0)
+-- whether two rows share a byte: both have the same successor for it
+abbrev pub shares : List StateNo → List StateNo → ℕ → Bool
+shares row other byte = eqb (successors row byte .0) (successors other byte .0)
+
+-- whether a byte is marked
+abbrev pub flags : List Bool → ℕ → Bool
+flags marked byte = getD marked byte false
 
 -- a row by the numbers of its states
 abbrev pub numbers : List ℕ → ℕ → ℕ
 numbers row byte = getD row byte 0
-
--- bytes that are marked one by one
-abbrev pub flags : List Bool → ℕ → Bool
-flags marked byte = getD marked byte false
