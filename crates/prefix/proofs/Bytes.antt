@@ -1,20 +1,20 @@
 -- The byte rule over prefix words is the rule over the leaves of the row's tree. Assumes nothing.
-use mathlib.Core.Path.{_≡_, refl, sym, _∙_, ap, subst}
-use mathlib.Core.List.{List, [], _∷_, _++_, map}
-use mathlib.Core.Bool.{Bool, true, false, cond, _&&_, _||_}
+use mathlib.Core.Path.{_≡_, refl, sym, _∙_, ap}
+use mathlib.Core.List.{List, [], _∷_, map}
+use mathlib.Core.Bool.{Bool, true, false, cond}
 use Prim.Native.Nat.{ℕ, zero, suc, _+_, _-_, _*_, _/_, _%_, _^_, _≤_, _<_, min}
 use native.Mathlib.Nat.{div-one}
 use native.Mathlib.Numerals.{add-one}
 use native.Mathlib.Omega.{arith}
-use lib.Dec.{T, eqb, ltb}
+use lib.Dec.{eqb, ltb}
 use lib.Pow.{pow-add, shr-shr, shr-lt}
 use lib.ListN.{length, length-map}
 use borrow.Author.Tests.{eqb-true, eqb-false, eq-eqb, ne-eqb, ltb-true, ltb-false}
 use Rattle.std.specs.declared.option.Option.{Option}
 use Rattle.std.specs.declared.option.Option.the-variants.{Some, None}
 use Rattle.prefix.specs.declared.word.PrefixWord.{PrefixWord}
-use Rattle.prefix.specs.Words.{matches, first, Served, ByteRule, Shortest, Fewest}
-use Rattle.prefix.specs.Tree.{Tree, leaf, node, Mark, here, low, high, nowhere, lows, highs, fits, meets, least, deferred, emit}
+use Rattle.prefix.specs.Words.{matches, first, Served, Shortest, Fewest}
+use Rattle.prefix.specs.Tree.{Tree, Mark, here, low, high, nowhere, lows, highs, fits, meets, least, deferred, emit}
 use Rattle.prefix.specs.Row.{build, subtree, dead, word, shortest}
 use Rattle.prefix.proofs.Halves.{false≢true}
 use Rattle.prefix.proofs.Lower.{both, lower}

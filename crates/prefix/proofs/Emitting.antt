@@ -2,7 +2,7 @@
 use mathlib.Core.Path.{_≡_, refl, sym, _∙_, ap, subst}
 use mathlib.Core.List.{List, [], _∷_, _++_, map, append-assoc}
 use mathlib.Core.Bool.{Bool, true, false, cond}
-use Prim.Native.Nat.{ℕ, zero, suc, _+_, _-_, _*_, _^_, _≤_, _<_, min}
+use Prim.Native.Nat.{ℕ, zero, suc, _+_, _-_, _*_, _^_, _≤_, _<_}
 use native.Mathlib.Nat.{add-zero}
 use native.Mathlib.Omega.{arith}
 use lib.Dec.{eqb, leb}
@@ -15,12 +15,11 @@ use Rattle.ternary.specs.declared.words.StateNo.{StateNo}
 use Rattle.prefix.specs.declared.word.PrefixWord.{PrefixWord}
 use Rattle.prefix.specs.declared.place.Node.{Node}
 use Rattle.prefix.specs.declared.place.Place.{Place}
-use Rattle.prefix.specs.Tree.{Tree, leaf, node, has, common, either, base, least, candidates, best, emit-under, emit}
+use Rattle.prefix.specs.Tree.{Tree, node, has, common, either, base, least, candidates, best, emit-under, emit}
 use Rattle.prefix.specs.Row.{build, subtree, placed}
-use Rattle.prefix.specs.Cells.{part, cells, splits, Ends, Emitted}
+use Rattle.prefix.specs.Cells.{part, splits, Ends, Emitted}
 use Rattle.prefix.specs.Reading.{Reads, lowHalf, highHalf}
 use Rattle.prefix.specs.Listed.{stated, wordFor, treeAt, wordsUnder, wordsAt}
-use Rattle.prefix.specs.States.{stateNo}
 use Rattle.prefix.proofs.Halves.{some-candidate}
 use Rattle.prefix.proofs.Memory.{cell-of-part}
 use Rattle.prefix.proofs.Prefixes.{subtree-halves, longer}

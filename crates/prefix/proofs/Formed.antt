@@ -1,15 +1,14 @@
 -- The emitted words are well formed. Assumes nothing.
-use mathlib.Core.Path.{_≡_, refl, sym, subst⁻¹}
-use mathlib.Core.List.{List, [], _∷_, _++_, map}
+use mathlib.Core.Path.{_≡_}
+use mathlib.Core.List.{List, [], _∷_, map}
 use mathlib.Core.Bool.{Bool, true, false, cond}
 use Prim.Native.Nat.{ℕ, zero, suc, _+_, _-_, _*_, _^_, _≤_, _<_}
 use native.Mathlib.Omega.{arith}
 use lib.Dec.{leb}
 use Rattle.std.specs.shelf.Lists.{All}
 use Rattle.std.proofs.shelf.Elements.{all-append, all-push}
-use Rattle.prefix.specs.declared.word.PrefixWord.{PrefixWord}
 use Rattle.prefix.specs.Words.{Formed}
-use Rattle.prefix.specs.Tree.{Tree, leaf, node, Mark, here, halves, closed, has, candidates, base, least, best, emit-under, emit}
+use Rattle.prefix.specs.Tree.{Mark, here, halves, closed, has, candidates, base, least, best, emit-under, emit}
 use Rattle.prefix.specs.Row.{build, word, shortest}
 use Rattle.prefix.proofs.Bytes.{double}
 use Rattle.prefix.proofs.Placed.{map-append, map-halves}

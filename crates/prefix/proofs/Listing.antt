@@ -1,11 +1,11 @@
 -- From the memory and the words of a whole row to its shortest list. Assumes nothing.
-use mathlib.Core.Path.{_≡_, refl, sym, _∙_, ap, subst}
-use mathlib.Core.List.{List, [], _∷_, _++_, map}
+use mathlib.Core.Path.{_≡_, sym, _∙_, ap}
+use mathlib.Core.List.{List, [], map}
 use mathlib.Core.Bool.{Bool}
-use Prim.Native.Nat.{ℕ, zero, suc, _+_, _-_, _≤_, _<_}
+use Prim.Native.Nat.{ℕ, _-_, _≤_, _<_}
 use native.Mathlib.Omega.{arith}
 use lib.Dec.{eqb}
-use lib.ListN.{length, take, drop, length-map}
+use lib.ListN.{length, length-map}
 use borrow.Author.Tests.{eqb-true}
 use Rattle.std.specs.shelf.Lists.{All}
 use Rattle.ternary.specs.declared.words.StateNo.{StateNo}
@@ -13,9 +13,9 @@ use Rattle.prefix.specs.declared.costs.Costs.{Costs}
 use Rattle.prefix.specs.declared.word.PrefixWord.{PrefixWord}
 use Rattle.prefix.specs.Words.{Formed, Shortest, Fewest}
 use Rattle.prefix.specs.States.{stateNo}
-use Rattle.prefix.specs.Tree.{Tree, emit, least}
-use Rattle.prefix.specs.Row.{subtree, placed, word, shortest}
-use Rattle.prefix.specs.Cells.{cells, room, Ends, Emitted}
+use Rattle.prefix.specs.Tree.{least}
+use Rattle.prefix.specs.Row.{subtree, shortest}
+use Rattle.prefix.specs.Cells.{room, Ends}
 use Rattle.prefix.specs.Filled.{Filled}
 use Rattle.prefix.specs.Listed.{stated}
 use Rattle.prefix.proofs.Bytes.{eqb-same, shortest-stands, shortest-length, fewest}

@@ -1,14 +1,13 @@
 -- The emitted words of a prefix, by those of its two longer prefixes. Assumes nothing.
-use mathlib.Core.Path.{_≡_, refl, sym, _∙_, ap, subst, subst⁻¹}
-use mathlib.Core.List.{List, [], _∷_, _++_, map, append-assoc}
-use mathlib.Core.Bool.{Bool, true, false, cond}
-use Prim.Native.Nat.{ℕ, zero, suc, _+_, _-_, _*_, _^_, _≤_, _<_, min}
+use mathlib.Core.Path.{_≡_, refl, sym, _∙_, ap, subst⁻¹}
+use mathlib.Core.List.{List, [], _∷_, _++_, map}
+use mathlib.Core.Bool.{Bool, true, false}
+use Prim.Native.Nat.{ℕ, suc, _+_, _-_, _*_, _<_}
 use native.Mathlib.Omega.{arith}
 use lib.Dec.{eqb, leb}
-use lib.ListN.{length, getD}
 use Rattle.prefix.specs.declared.word.PrefixWord.{PrefixWord}
-use Rattle.prefix.specs.Tree.{Tree, leaf, node, Mark, here, low, high, nowhere, halves, closed, has, candidates, base, least, best, emit-under, emit}
-use Rattle.prefix.specs.Row.{build, subtree, word, placed}
+use Rattle.prefix.specs.Tree.{Tree, node, Mark, here, low, high, halves, closed, has, candidates, base, least, best, emit-under, emit}
+use Rattle.prefix.specs.Row.{subtree, word, placed}
 use Rattle.prefix.proofs.Prefixes.{subtree-halves}
 
 pub map-append : {X Y : Type 0} (f : X → Y) (xs ys : List X) → map f (xs ++ ys) ≡ map f xs ++ map f ys

@@ -1,9 +1,7 @@
-use mathlib.Core.Path.{_≡_, refl, sym, _∙_, ap}
-use mathlib.Core.Bool.{true, false}
-use Prim.Native.Nat.{ℕ, _+_, _-_, _<_}
+use mathlib.Core.Path.{refl, sym, _∙_}
+use Prim.Native.Nat.{_-_, _<_}
 use native.Mathlib.Omega.{arith}
-use lib.Dec.{eqb}
-use lib.ListN.{length, getD}
+use lib.ListN.{getD}
 use Rattle.prefix.specs.Listed.{wordFor, wordsUnder}
 use Rattle.prefix.specs.States.{numbers, flags}
 use Rattle.prefix.proofs.Emitting.{emitted-two, emitted-three, length-two, length-three, value-below, read-within, opened}

@@ -1,5 +1,5 @@
 use mathlib.Core.Path.{_≡_, sym, _∙_, ap}
-use Prim.Native.Nat.{ℕ, _-_, _*_, _%_, _^_}
+use Prim.Native.Nat.{_-_, _*_, _%_, _^_}
 use lib.Bits.{bitAnd}
 use lib.Dec.{eqb}
 use Rattle.prefix.proofs.Masking.{low-byte, clear, compares}
