@@ -1,0 +1,14 @@
+pub mod Halves
+pub mod Lower
+pub mod Upper
+pub mod Bytes
+pub mod Prefixes
+pub mod Placed
+pub mod Formed
+pub mod Masking
+pub mod Memory
+pub mod Filling
+pub mod Opening
+pub mod Emitting
+pub mod Redecided
+pub mod Listing

@@ -1,0 +1,10 @@
+pub mod Words
+pub mod States
+pub mod Masks
+pub mod Tree
+pub mod Row
+pub mod Cells
+pub mod Parts
+pub mod Filled
+pub mod Reading
+pub mod Listed
