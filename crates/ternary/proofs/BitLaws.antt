@@ -12,6 +12,7 @@ use Rattle.std.specs.Orderings.{Decides}
 use Rattle.std.proofs.shelf.Bits.{shr-shr, mod-below}
 use Rattle.std.proofs.shelf.Tests.{eq-eqb, eqb-true, true≢false, false≢true}
 use Rattle.ternary.specs.Bits.{digit, bit}
+pub use Rattle.ternary.specs.Entries.{and-again}
 use Rattle.ternary.specs.Match.{Agrees}
 
 pub digit-zero : (n : ℕ) → digit n 0 ≡ n % 2
@@ -84,16 +85,6 @@ same-bits a b same =
     same-bits-below (a + b) a b (omega (arith, below-pow a)) (omega (arith, below-pow b)) (λ p h. same p)
 
 -- what a mask leaves
-
-twice-and : (x y : Bool) → (x && y) && y ≡ x && y
-twice-and true true = refl
-twice-and true false = refl
-twice-and false y = refl
-
-pub and-again : (v m : ℕ) → bitAnd (bitAnd v m) m ≡ bitAnd v m
-and-again v m =
-    same-bits (bitAnd (bitAnd v m) m) (bitAnd v m)
-    (λ p. bit-and (bitAnd v m) m p ∙ (ap (λ (t : Bool). t && bit m p) (bit-and v m p) ∙ (twice-and (bit v p) (bit m p) ∙ sym (bit-and v m p))))
 
 and-true : (x y : Bool) → y ≡ true → x && y ≡ x
 and-true true y e = e

@@ -1,3 +1,4 @@
 pub mod Bits
+pub mod Entries
 pub mod Match
 pub mod Refusals
