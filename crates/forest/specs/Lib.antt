@@ -1,0 +1,9 @@
+pub mod Words
+pub mod Counting
+pub mod Forest
+pub mod Codes
+pub mod Deferment
+pub mod Placing
+pub mod Table
+pub mod Laws
+pub mod Heaviest
