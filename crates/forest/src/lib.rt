@@ -1,9 +1,8 @@
 // Shadow codes over a deferment forest.
 ghost use Rattle.forest.specs.Laws.{ShadowsStand, TableStands, TreesStand, DefermentStands, ForestStands, AutomatonStands, ArraysStand};
-ghost use Rattle.forest.specs.Heaviest.{HeaviestStands};
 
 pub mod codes;
-pub mod kruskal;
+mod joining;
 pub mod placing;
 pub mod sharing;
 
@@ -24,13 +23,6 @@ pub fn table_stands() -> u8
 // Joined states share 32 bytes or more, and two states that do stand in one tree.
 pub fn trees_stand() -> u8
     ensures { λ _. ⌜ TreesStand ⌝ }
-{
-    0
-}
-
-// No other choice of pairs without a circle shares more bytes than the joined pairs.
-pub fn heaviest_stands() -> u8
-    ensures { λ _. ⌜ HeaviestStands ⌝ }
 {
     0
 }
