@@ -26,7 +26,11 @@ pub record Tracks (f : Trees) (tree : List ℕ) (pairs : List (ℕ × ℕ)) (joi
   pub free : (k : ℕ) → k < length tree → getD tree k 0 ≡ k → getD joined k false ≡ false
   pub kept : (u v : ℕ) → f .joined u v ≡ joinedIn pairs joined (length tree) u v
 
--- an array holds how many bytes two states share, the smaller one's row first
+-- an array holds, in the rows below m, how many bytes the row's state shares with each larger one
+abbrev pub RowsCounted : Dfa → List ℕ → ℕ → Type 0
+RowsCounted a counts m = (s t : ℕ) → s < m → s < t → t < a .states → getD counts (s * a .states + t) 0 ≡ shared a s t
+
+-- it holds so in all rows
 pub record Shares (a : Dfa) (counts : List ℕ) (n : ℕ) : Type 0 where
   pub states : a .states ≡ n
   pub counted : (s t : ℕ) → s < t → t < n → getD counts (s * n + t) 0 ≡ shared a s t

@@ -1,10 +1,10 @@
 // Shadow codes over a deferment forest.
 ghost use Rattle.forest.specs.Laws.{ShadowsStand, TableStands, TreesStand, DefermentStands, ForestStands, AutomatonStands, ArraysStand};
 
-pub mod codes;
+mod codes;
 mod joining;
-pub mod placing;
-pub mod sharing;
+mod placing;
+mod sharing;
 
 // A state's code matches its own shadow and those of the states it defers to, and no other.
 pub fn shadows_stand() -> u8
