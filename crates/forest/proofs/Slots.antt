@@ -12,8 +12,8 @@ use Rattle.std.proofs.shelf.Lists.{getD-set-same, getD-set-other}
 use Rattle.std.proofs.shelf.Tests.{cases-eq, eq-eqb, ne-eqb, cond-true, cond-false}
 use Rattle.forest.specs.Counting.{any}
 use Rattle.automaton.specs.Runs.{Dfa}
-use Rattle.forest.specs.Deferment.{Trees, join, kruskal, pairsOf, pairsBelow, ranked, pairIs, joinedIn}
-use Rattle.forest.specs.Joining.{turn, Sized, Tracks, pairShares}
+use Rattle.forest.specs.Deferment.{Trees, alone, join, kruskal, pairsOf, pairsBelow, ranked, pairIs, joinedIn}
+use Rattle.forest.specs.Joining.{turn, Sized, Tracks, pairShares, Alone}
 use Rattle.forest.proofs.Counts.{any-same}
 
 or-swap : (x y : Bool) → (x || y) ≡ (y || x)
@@ -143,3 +143,16 @@ rows-more a f c s = ap (λ (k : ℕ). kruskal f (pairsBelow a c k)) (add-one s) 
 -- the pairs that share 32 + m bytes, and then those that share fewer
 pub ranked-more : (a : Dfa) (f : Trees) (m : ℕ) → kruskal f (ranked a (suc m)) ≡ kruskal (kruskal f (pairsBelow a (32 + m) (a .states))) (ranked a m)
 ranked-more a f m = kruskal-++ f (pairsBelow a (32 + m) (a .states)) (ranked a m)
+
+none-any : (p : ℕ → Bool) (n : ℕ) → ((k : ℕ) → k < n → p k ≡ false) → any p n ≡ false
+none-any p zero h = refl
+none-any p (suc n) h = ap₂ (λ (x y : Bool). x || y) (h n (omega arith)) (none-any p n (λ k l. h k (omega arith)))
+
+-- states that are alone are tracked
+pub alone-tracks : (tree : List ℕ) (pairs : List (ℕ × ℕ)) (joined : List Bool) → Alone tree pairs joined (length tree) → Tracks alone tree pairs joined
+alone-tracks tree pairs joined each = record {
+  trees = λ k h. each k h .0;
+  used = λ k h. ap (λ (j : ℕ). getD tree j 0) (each k h .0);
+  free = λ k h own. each k h .2;
+  kept = λ u v. sym (none-any (λ i. getD joined i false && pairIs (getD pairs i (0, 0)) u v) (length tree) (λ i h. ap (λ (x : Bool). x && pairIs (getD pairs i (0, 0)) u v) (each i h .2)));
+}

@@ -38,3 +38,7 @@ pub record Shares (a : Dfa) (counts : List ℕ) (n : ℕ) : Type 0 where
 -- t is larger than s and shares c bytes with it
 abbrev pub pairShares : Dfa → ℕ → ℕ → ℕ → Bool
 pairShares a c s t = ltb s t && eqb (shared a s t) c
+
+-- the first m states are trees of their own numbers, with no join kept at them
+abbrev pub Alone : List ℕ → List (ℕ × ℕ) → List Bool → ℕ → Type 0
+Alone tree pairs joined m = (k : ℕ) → k < m → (getD tree k 0 ≡ k) × (getD pairs k (0, 0) ≡ (0, 0)) × (getD joined k false ≡ false)

@@ -6,7 +6,7 @@ ghost use lib.Dec.{eqb};
 ghost use lib.ListN.{length, getD};
 ghost use Rattle.automaton.specs.Runs.{Dfa};
 ghost use Rattle.forest.specs.Deferment.{Trees, kruskal, pairsOf, pairsBelow, treesOf, alone};
-ghost use Rattle.forest.specs.Joining.{turn, Sized, Tracks, Shares, pairShares};
+ghost use Rattle.forest.specs.Joining.{turn, Sized, Tracks, Shares, pairShares, Alone};
 
 // Gives the number `to` to the states of the tree `from`.
 fn relabel(tree: &mut [u16], from: u16, to: u16)
@@ -91,7 +91,7 @@ fn join_sharing(
 }
 
 // Joins the pairs that share 32 bytes or more, those that share more first.
-fn join_ranked(counts: &[u32], tree: &mut [u16], pairs: &mut [(u16, u16)], joined: &mut [bool])
+pub(crate) fn join_ranked(counts: &[u32], tree: &mut [u16], pairs: &mut [(u16, u16)], joined: &mut [bool])
     requires few { ⌜ length (now tree) ≤ 512 ⌝ }
     requires room { ⌜ length (now tree) * length (now tree) ≤ length (now counts) ⌝ }
     requires sized { ⌜ Sized (now tree) (now pairs) (now joined) ⌝ }
@@ -101,5 +101,18 @@ fn join_ranked(counts: &[u32], tree: &mut [u16], pairs: &mut [(u16, u16)], joine
 {
     for fewer in 0..225 {
         join_sharing(counts, 256 - fewer, tree, pairs, joined);
+    }
+}
+
+// At first each state is a tree of its own number, and no join is kept.
+pub(crate) fn start_alone(tree: &mut [u16], pairs: &mut [(u16, u16)], joined: &mut [bool])
+    requires few { ⌜ length (now tree) ≤ 512 ⌝ }
+    requires sizes { ⌜ (length (now pairs) ≡ length (now tree)) × (length (now joined) ≡ length (now tree)) ⌝ }
+    ensures { λ _. ⌜ Alone (now (tree .exit)) (now (pairs .exit)) (now (joined .exit)) (length (now (tree .entry))) ⌝ }
+{
+    for k in 0..tree.len() {
+        tree[k] = k as u16;
+        pairs[k] = (0, 0);
+        joined[k] = false;
     }
 }

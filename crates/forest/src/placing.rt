@@ -9,7 +9,7 @@ ghost use Rattle.forest.specs.Deferment.{treesOf, depthOf, parentOf};
 ghost use Rattle.forest.specs.Placing.{visitDepths, visitParents, Placed, Holds, Counted, betterIn, rootIn};
 
 // Places `t` below `s`, if `s` stands at depth `r` and `t` has no place yet: its depth is still the number of states.
-pub fn visit(depths: &mut [u16], parents: &mut [Option<u16>], r: u16, s: u16, t: u16)
+fn visit(depths: &mut [u16], parents: &mut [Option<u16>], r: u16, s: u16, t: u16)
     requires inside { ⌜ s < length (now depths) ⌝ ∗ ⌜ t < length (now depths) ⌝ ∗ ⌜ t < length (now parents) ⌝ }
     requires room { ⌜ r < 65535 ⌝ }
     ensures depths { λ _. ⌜ now (depths .exit) ≡ visitDepths (now (depths .entry)) (length (now (depths .entry))) r s t ⌝ }
@@ -22,7 +22,7 @@ pub fn visit(depths: &mut [u16], parents: &mut [Option<u16>], r: u16, s: u16, t:
 }
 
 // One round: every state without a place that is joined to a state at depth `r` is placed below it.
-pub fn place_round(
+fn place_round(
     pairs: &[(u16, u16)],
     joined: &[bool],
     r: u16,
@@ -46,7 +46,7 @@ pub fn place_round(
 }
 
 // Whether `t` is a better root than `s`: more bytes lead to itself, or as many and its number is lower.
-pub fn is_better(loop_counts: &[u16], t: usize, s: usize) -> bool
+fn is_better(loop_counts: &[u16], t: usize, s: usize) -> bool
     requires { ⌜ t < length (now «loop_counts») ⌝ ∗ ⌜ s < length (now «loop_counts») ⌝ }
     ensures { λ r. ⌜ r ≡ betterIn (now («loop_counts» .entry)) t s ⌝ }
 {
@@ -58,7 +58,7 @@ pub fn is_better(loop_counts: &[u16], t: usize, s: usize) -> bool
 }
 
 // Whether no state of the tree of `s` is a better root.
-pub fn is_root(tree: &[u16], loop_counts: &[u16], s: usize) -> bool
+fn is_root(tree: &[u16], loop_counts: &[u16], s: usize) -> bool
     requires { ⌜ s < length (now tree) ⌝ ∗ ⌜ length (now «loop_counts») ≡ length (now tree) ⌝ }
     ensures { λ r. ⌜ r ≡ rootIn (now (tree .entry)) (now («loop_counts» .entry)) s ⌝ }
 {
@@ -71,7 +71,7 @@ pub fn is_root(tree: &[u16], loop_counts: &[u16], s: usize) -> bool
 }
 
 // Places the roots at depth 0, and no other state yet.
-pub fn place_roots(
+fn place_roots(
     tree: &[u16],
     loop_counts: &[u16],
     depths: &mut [u16],
@@ -93,7 +93,7 @@ pub fn place_roots(
 }
 
 // Finds the depth and the parent of every state.
-pub fn place_all(
+pub(crate) fn place_all(
     tree: &[u16],
     loop_counts: &[u16],
     pairs: &[(u16, u16)],

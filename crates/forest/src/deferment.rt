@@ -1,0 +1,36 @@
+// Who defers to whom, by the rule.
+ghost use Prim.Native.Nat.{ℕ, _*_, _≤_};
+ghost use mathlib.Core.Path.{_≡_};
+ghost use lib.ListN.{length};
+ghost use Rattle.automaton.specs.Limits.{handed, Within, dfa};
+ghost use Rattle.forest.specs.Laws.{Found};
+use crate::joining::join_ranked;
+use crate::joining::start_alone;
+use crate::placing::place_all;
+use crate::sharing::count_loops;
+use crate::sharing::count_shared;
+use automaton::words::Automaton;
+
+// Finds the depth and the parent of each state, in arrays with one place a state.
+fn defer_in(
+    automaton: Automaton<'_>,
+    counts: &mut [u32],
+    tree: &mut [u16],
+    pairs: &mut [(u16, u16)],
+    joined: &mut [bool],
+    loop_counts: &mut [u16],
+    depths: &mut [u16],
+    parents: &mut [Option<u16>],
+)
+    requires within { ⌜ Within (handed automaton) ⌝ }
+    requires room { ⌜ automaton .states * automaton .states ≤ length (now counts) ⌝ }
+    requires trees { ⌜ (length (now tree) ≡ automaton .states) × (length (now pairs) ≡ automaton .states) × (length (now joined) ≡ automaton .states) ⌝ }
+    requires places { ⌜ (length (now «loop_counts») ≡ automaton .states) × (length (now depths) ≡ automaton .states) × (length (now parents) ≡ automaton .states) ⌝ }
+    ensures { λ _. ⌜ Found (dfa (handed (automaton .entry))) (now (parents .exit)) (now (depths .exit)) ⌝ }
+{
+    count_shared(automaton, counts);
+    start_alone(tree, pairs, joined);
+    join_ranked(counts, tree, pairs, joined);
+    count_loops(automaton, loop_counts);
+    place_all(tree, loop_counts, pairs, joined, depths, parents);
+}
