@@ -11,7 +11,7 @@ use Rattle.automaton.specs.Runs.{Dfa}
 use Rattle.forest.specs.Forest.{code, mask}
 use Rattle.forest.specs.Codes.{Parents, same, deferring, bitsFor, childBits, rootBits, numberOf, prefixOf, lenOf, spanOf, widthOf, parentsIn, depthsIn, numbered, Rooted}
 use Rattle.forest.specs.Deferment.{treesOf, depthOf, parentOf, joinedForest}
-use Rattle.forest.specs.Laws.{Found, ArraysStand}
+use Rattle.forest.specs.Laws.{Holding, Same, ArraysStand}
 use Rattle.forest.proofs.Counts.{count-same-below, most-same-below}
 use Rattle.forest.proofs.Shadow.{cases-parent}
 use Rattle.forest.proofs.Numbered.{number-root, number-child, prefix-root, prefix-child, len-root, len-child}
@@ -65,54 +65,59 @@ module _ (n : ℕ) (old new : Parents) (agree : (s : ℕ) → s < n → old s �
       (most-same-below (λ t. cond (same (old t) None) (spanOf n n old t) 0) (λ t. cond (same (new t) None) (spanOf n n new t) 0) n
       (λ t ht. ap₂ (λ (x : Option ℕ) (y : ℕ). cond (same x None) y 0) (agree t ht) (span-same n t)))
 
-module _ (a : Dfa) (parents : List (Option ℕ)) (depths : List ℕ) (found : Found a parents depths) where
-  abbrev new : Parents
-  new = parentsIn parents
+-- arrays that hold the parents and the depths of a rooted forest
+module _ (n : ℕ) (parent : Parents) (depth : ℕ → ℕ) (r : Rooted n parent depth) (parents : List (Option ℕ)) (depths : List ℕ) (found : Holding n parent depth parents depths) where
+  agree-in : (s : ℕ) → s < n → parent s ≡ parentsIn parents s
+  agree-in s hs = sym (found .parent-at s hs)
 
-  abbrev at : ℕ → ℕ
-  at = depthsIn depths
-
-  agree-in : (s : ℕ) → s < a .states → parentOf a (treesOf a) s ≡ new s
-  agree-in s hs = sym (found .parent s hs)
-
-  r : Rooted (a .states) (parentOf a (treesOf a)) (depthOf a (treesOf a))
-  r = rooted a (treesOf a) (kept a)
-
-  rooted-in : Rooted (a .states) new at
+  rooted-in : Rooted n (parentsIn parents) (depthsIn depths)
   rooted-in = record {
-    roots = λ s hs e. found .depth s hs ∙ r .roots s hs (agree-in s hs ∙ e);
+    roots = λ s hs e. found .depth-at s hs ∙ r .roots s hs (agree-in s hs ∙ e);
     inside = λ s p hs e. r .inside s p hs (agree-in s hs ∙ e);
     falls = λ s p hs e.
         let k = agree-in s hs ∙ e in
-        found .depth s hs ∙ r .falls s p hs k ∙ ap suc (sym (found .depth p (r .inside s p hs k)));
-    shallow = λ s hs. omega (arith, found .depth s hs, r .shallow s hs);
+        found .depth-at s hs ∙ r .falls s p hs k ∙ ap suc (sym (found .depth-at p (r .inside s p hs k)));
+    shallow = λ s hs. omega (arith, found .depth-at s hs, r .shallow s hs);
   }
 
-  width-in : widthOf (a .states) new ≡ widthOf (a .states) (parentOf a (treesOf a))
-  width-in = sym (width-same (a .states) (parentOf a (treesOf a)) new agree-in (r .inside))
+  width-in : widthOf n (parentsIn parents) ≡ widthOf n parent
+  width-in = sym (width-same n parent (parentsIn parents) agree-in (r .inside))
 
-  len-in : (s : ℕ) → s < a .states → lenOf (suc (at s)) (a .states) new s ≡ joinedForest a .len s
+  len-in : (s : ℕ) → s < n → lenOf (suc (depthsIn depths s)) n (parentsIn parents) s ≡ lenOf (suc (depth s)) n parent s
   len-in s hs =
-      ap (λ (d : ℕ). lenOf (suc d) (a .states) new s) (found .depth s hs)
-      ∙ sym (len-same (a .states) (parentOf a (treesOf a)) new agree-in (r .inside) (suc (depthOf a (treesOf a) s)) s hs)
+      ap (λ (d : ℕ). lenOf (suc d) n (parentsIn parents) s) (found .depth-at s hs)
+      ∙ sym (len-same n parent (parentsIn parents) agree-in (r .inside) (suc (depth s)) s hs)
 
-  prefix-in : (s : ℕ) → s < a .states → prefixOf (suc (at s)) (a .states) new s ≡ joinedForest a .prefix s
+  prefix-in : (s : ℕ) → s < n → prefixOf (suc (depthsIn depths s)) n (parentsIn parents) s ≡ prefixOf (suc (depth s)) n parent s
   prefix-in s hs =
-      ap (λ (d : ℕ). prefixOf (suc d) (a .states) new s) (found .depth s hs)
-      ∙ sym (prefix-same (a .states) (parentOf a (treesOf a)) new agree-in (r .inside) (suc (depthOf a (treesOf a) s)) s hs)
+      ap (λ (d : ℕ). prefixOf (suc d) n (parentsIn parents) s) (found .depth-at s hs)
+      ∙ sym (prefix-same n parent (parentsIn parents) agree-in (r .inside) (suc (depth s)) s hs)
+
+  pub same-in : Same (numbered n parent depth) parents depths
+  same-in = record {
+    described = λ h. record {
+      size = omega (arith, found .size);
+      rooted = subst (λ (k : ℕ). Rooted k (parentsIn parents) (depthsIn depths)) (sym (found .size)) rooted-in;
+    };
+    width = ap (λ (k : ℕ). widthOf k (parentsIn parents)) (found .size) ∙ width-in;
+    codes = λ s hs.
+        ap (λ (k : ℕ). code (numbered k (parentsIn parents) (depthsIn depths)) s) (found .size)
+        ∙ ap₂ (λ (x y : ℕ). x * 2 ^ y) (prefix-in s hs) (ap₂ (λ (x y : ℕ). x - y) width-in (len-in s hs));
+    masks = λ s hs.
+        ap (λ (k : ℕ). mask (numbered k (parentsIn parents) (depthsIn depths)) s) (found .size)
+        ∙ ap₂ (λ (x y : ℕ). 2 ^ x - 2 ^ (x - y)) width-in (len-in s hs);
+  }
+
+loose-rooted : (n : ℕ) → Rooted n (λ s. None) (λ s. 0)
+loose-rooted n = record {
+  roots = λ s hs e. refl;
+  inside = λ s p hs e. absurd (let z : _≡_ {A = ℕ} 0 1 = cc in omega arith);
+  falls = λ s p hs e. absurd (let z : _≡_ {A = ℕ} 0 1 = cc in omega arith);
+  shallow = λ s hs. omega arith;
+}
 
 pub arrays-stand : ArraysStand
-arrays-stand a parents depths found = record {
-  described = λ h. record {
-    size = omega (arith, found .size);
-    rooted = subst (λ (n : ℕ). Rooted n (parentsIn parents) (depthsIn depths)) (sym (found .size)) (rooted-in a parents depths found);
-  };
-  width = ap (λ (n : ℕ). widthOf n (parentsIn parents)) (found .size) ∙ width-in a parents depths found;
-  codes = λ s hs.
-      ap (λ (n : ℕ). code (numbered n (parentsIn parents) (depthsIn depths)) s) (found .size)
-      ∙ ap₂ (λ (x y : ℕ). x * 2 ^ y) (prefix-in a parents depths found s hs)
-      (ap₂ (λ (x y : ℕ). x - y) (width-in a parents depths found) (len-in a parents depths found s hs));
-  masks = λ s hs.
-      ap (λ (n : ℕ). mask (numbered n (parentsIn parents) (depthsIn depths)) s) (found .size)
-      ∙ ap₂ (λ (x y : ℕ). 2 ^ x - 2 ^ (x - y)) (width-in a parents depths found) (len-in a parents depths found s hs);
-}
+arrays-stand a parents depths = (
+  λ found. same-in (a .states) (parentOf a (treesOf a)) (depthOf a (treesOf a)) (rooted a (treesOf a) (kept a)) parents depths found,
+  λ found. same-in (a .states) (λ s. None) (λ s. 0) (loose-rooted (a .states)) parents depths found,
+)

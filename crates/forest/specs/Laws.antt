@@ -12,7 +12,7 @@ use Rattle.forest.specs.Words.{ByteWord}
 use Rattle.automaton.specs.Runs.{Dfa}
 use Rattle.forest.specs.Forest.{Forest, WellFormed, Above, code, mask}
 use Rattle.forest.specs.Codes.{forestIn, Described}
-use Rattle.forest.specs.Deferment.{Trees, shared, treesOf, Walk, isRoot, depthOf, parentOf, joinedForest, forestOf}
+use Rattle.forest.specs.Deferment.{Trees, shared, treesOf, Walk, isRoot, depthOf, parentOf, joinedForest, looseForest, forestOf}
 use Rattle.forest.specs.Table.{ByteRule, decision, table}
 
 -- a state's code matches its own shadow and those of the states it defers to, and no other
@@ -76,18 +76,28 @@ ForestStands = (a : Dfa) → Fitting a
 abbrev pub AutomatonStands : Type 0
 AutomatonStands = (a : Dfa) (words : ℕ → List ByteWord) → ByteRule a (forestOf a) words → Right a (forestOf a) words
 
--- the arrays hold the depth and the parent of each state of an automaton
-pub record Found (a : Dfa) (parents : List (Option ℕ)) (depths : List ℕ) : Type 0 where
-  pub size : length parents ≡ a .states
-  pub depth : (s : ℕ) → s < a .states → getD depths s 0 ≡ depthOf a (treesOf a) s
-  pub parent : (s : ℕ) → s < a .states → getD parents s None ≡ parentOf a (treesOf a) s
+-- arrays hold the parent and the depth of each of n states
+pub record Holding (n : ℕ) (parent : ℕ → Option ℕ) (depth : ℕ → ℕ) (parents : List (Option ℕ)) (depths : List ℕ) : Type 0 where
+  pub size : length parents ≡ n
+  pub depth-at : (s : ℕ) → s < n → getD depths s 0 ≡ depth s
+  pub parent-at : (s : ℕ) → s < n → getD parents s None ≡ parent s
 
--- they describe a forest, with the width, the codes and the masks of the automaton's
-pub record Same (a : Dfa) (parents : List (Option ℕ)) (depths : List ℕ) : Type 0 where
-  pub described : a .states ≤ 2 ^ 16 → Described parents depths
-  pub width : forestIn parents depths .width ≡ joinedForest a .width
-  pub codes : (s : ℕ) → s < a .states → code (forestIn parents depths) s ≡ code (joinedForest a) s
-  pub masks : (s : ℕ) → s < a .states → mask (forestIn parents depths) s ≡ mask (joinedForest a) s
+-- they hold those of an automaton's joined states
+abbrev pub Found : Dfa → List (Option ℕ) → List ℕ → Type 0
+Found a = Holding (a .states) (parentOf a (treesOf a)) (depthOf a (treesOf a))
 
+-- they hold that every state is a root
+abbrev pub Loose : Dfa → List (Option ℕ) → List ℕ → Type 0
+Loose a = Holding (a .states) (λ s. None) (λ s. 0)
+
+-- arrays describe a forest, with its width, codes and masks
+pub record Same (f : Forest) (parents : List (Option ℕ)) (depths : List ℕ) : Type 0 where
+  pub described : f .states ≤ 2 ^ 16 → Described parents depths
+  pub width : forestIn parents depths .width ≡ f .width
+  pub codes : (s : ℕ) → s < f .states → code (forestIn parents depths) s ≡ code f s
+  pub masks : (s : ℕ) → s < f .states → mask (forestIn parents depths) s ≡ mask f s
+
+-- so do arrays of the joined states, and of states that are all roots
 abbrev pub ArraysStand : Type 0
-ArraysStand = (a : Dfa) (parents : List (Option ℕ)) (depths : List ℕ) → Found a parents depths → Same a parents depths
+ArraysStand = (a : Dfa) (parents : List (Option ℕ)) (depths : List ℕ) →
+    (Found a parents depths → Same (joinedForest a) parents depths) × (Loose a parents depths → Same (looseForest a) parents depths)

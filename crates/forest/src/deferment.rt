@@ -3,7 +3,8 @@ ghost use Prim.Native.Nat.{ℕ, _*_, _≤_};
 ghost use mathlib.Core.Path.{_≡_};
 ghost use lib.ListN.{length};
 ghost use Rattle.automaton.specs.Limits.{handed, Within, dfa};
-ghost use Rattle.forest.specs.Laws.{Found};
+ghost use Rattle.forest.specs.Laws.{Found, Loose};
+ghost use Rattle.automaton.specs.Runs.{Dfa};
 use crate::joining::join_ranked;
 use crate::joining::start_alone;
 use crate::placing::place_all;
@@ -33,4 +34,15 @@ fn defer_in(
     join_ranked(counts, tree, pairs, joined);
     count_loops(automaton, loop_counts);
     place_all(tree, loop_counts, pairs, joined, depths, parents);
+}
+
+// Leaves every state a root.
+pub(crate) fn loosen(depths: &mut [u16], parents: &mut [Option<u16>])
+    requires { ⌜ length (now parents) ≡ length (now depths) ⌝ }
+    ensures { λ _. ⌜ ((a : Dfa) → a .states ≡ length (now (depths .entry)) → Loose a (now (parents .exit)) (now (depths .exit))) ⌝ }
+{
+    for s in 0..depths.len() {
+        depths[s] = 0;
+        parents[s] = None;
+    }
 }

@@ -26,6 +26,6 @@ returns c =
     let found = c .place-all .ensures a counted holds in
     record {
       size = c .place-all .kept .parents ∙ c .pre .places .2;
-      depth = λ s h. found s h .0;
-      parent = λ s h. found s h .1;
+      depth-at = λ s h. found s h .0;
+      parent-at = λ s h. found s h .1;
     }
