@@ -7,3 +7,4 @@ pub mod Joining
 pub mod Placing
 pub mod Table
 pub mod Laws
+pub mod Plan

@@ -12,7 +12,36 @@ use crate::sharing::count_loops;
 use crate::sharing::count_shared;
 use automaton::words::Automaton;
 
-// Finds the depth and the parent of each state, in arrays with one place a state.
+// Finds the depth and the parent of each state.
+pub(crate) fn defer(
+    automaton: Automaton<'_>,
+    counts: &mut [u32],
+    depths: &mut [u16],
+    parents: &mut [Option<u16>],
+)
+    requires within { ⌜ Within (handed automaton) ⌝ }
+    requires room { ⌜ automaton .states * automaton .states ≤ length (now counts) ⌝ }
+    requires sizes { ⌜ (length (now depths) ≡ automaton .states) × (length (now parents) ≡ automaton .states) ⌝ }
+    ensures { λ _. ⌜ Found (dfa (handed (automaton .entry))) (now (parents .exit)) (now (depths .exit)) ⌝ }
+{
+    let states = automaton.states as usize;
+    let mut tree = [0; 512];
+    let mut pairs = [(0, 0); 512];
+    let mut joined = [false; 512];
+    let mut loop_counts = [0; 512];
+    defer_in(
+        automaton,
+        counts,
+        &mut tree[0..states],
+        &mut pairs[0..states],
+        &mut joined[0..states],
+        &mut loop_counts[0..states],
+        depths,
+        parents,
+    );
+}
+
+// The same, in lent arrays with one place a state.
 fn defer_in(
     automaton: Automaton<'_>,
     counts: &mut [u32],

@@ -2,6 +2,7 @@
 ghost use Rattle.forest.specs.Laws.{ShadowsStand, TableStands, TreesStand, DefermentStands, ForestStands, AutomatonStands, ArraysStand};
 
 mod codes;
+mod coding;
 mod deferment;
 mod joining;
 mod placing;
