@@ -5,6 +5,7 @@ mod codes;
 mod coding;
 mod deferment;
 mod joining;
+pub mod plan;
 mod placing;
 mod sharing;
 
