@@ -22,6 +22,7 @@ use Rattle.std.proofs.shelf.Lists.{take-at, length-map, getD-map, append-nil}
 use Rattle.std.proofs.shelf.Tests.{cond-true, cond-false, cases-eq, and-from, and-parts, le-leb, leb-true, lt-leb}
 use Rattle.ternary.specs.declared.refusal.Refusal.{Refusal}
 use Rattle.ternary.specs.declared.refusal.Refusal.the-variants.{Malformed, OutputTooShort}
+use Rattle.ternary.specs.Refusals.{refuseOr}
 use Rattle.ternary.specs.declared.words.StateNo.{StateNo}
 use Rattle.fields.specs.Fields.{word, written}
 use Rattle.fields.proofs.Bytes.{part-of-item}
@@ -30,7 +31,7 @@ use Rattle.automaton.specs.declared.words.ByteRange.{ByteRange}
 use Rattle.automaton.specs.declared.words.Header.{Header}
 use Rattle.automaton.specs.Runs.{Dfa}
 use Rattle.automaton.specs.Limits.{Handed, Within, dfa}
-use Rattle.automaton.specs.File.{stateNo, StateRecord, Source, inRange, nextBy, rowOf, classOf, rows, classes, encode, recordsIn, decode, fault, headerOf, roomFor, refuseOr, readAnswer, filled}
+use Rattle.automaton.specs.File.{stateNo, StateRecord, Source, inRange, nextBy, rowOf, classOf, rows, classes, encode, recordsIn, decode, fault, headerOf, roomFor, readAnswer, filled}
 use Rattle.automaton.specs.Laws.{RangeOk, RecordOk, SourceOk, Room, Sound, oneByte, recordOf, sourceOf, fileOf, Same, heldIn, KeepsLimits, IsItsSourcesFile, GivesSourceBack, GivesAutomatonBack}
 use Rattle.automaton.proofs.Records.{length-recordsIn, read-ok}
 use Rattle.automaton.proofs.Filetrip.{file-comes-back, source-comes-back}

@@ -16,10 +16,11 @@ use Rattle.std.proofs.shelf.Tests.{cond-true, cond-false, false≢true, and-fro
 use Rattle.fields.proofs.Faults.{passed, stopped, both-pass, check-pass, pass, last-fault}
 use Rattle.std.specs.declared.result.Result.the-variants.{Ok, Err}
 use Rattle.ternary.specs.declared.refusal.Refusal.the-variants.{OutputTooShort}
+use Rattle.ternary.specs.Refusals.{refuseOr}
 use Rattle.ternary.specs.declared.words.StateNo.{StateNo}
 use Rattle.automaton.specs.declared.words.ByteRange.{ByteRange}
 use Rattle.fields.specs.Fields.{word, long, check, orElse, firstOf, written, eachFault}
-use Rattle.automaton.specs.File.{fault, fieldsFault, readAnswer, headerOf, refuseOr, roomFor, StateRecord, rangeAt, rangesIn, inRange, nextBy, recordSize, lengthFits, rangeFault, recordFault, recordsFault, recordIn, recordsIn, rowOf}
+use Rattle.automaton.specs.File.{fault, fieldsFault, readAnswer, headerOf, roomFor, StateRecord, rangeAt, rangesIn, inRange, nextBy, recordSize, lengthFits, rangeFault, recordFault, recordsFault, recordIn, recordsIn, rowOf}
 
 module _ (bs : List ℕ) (count : ℕ) (default : StateNo) (byte i : ℕ) where
   module _ (h : i < count) where

@@ -12,7 +12,8 @@ use Rattle.std.specs.declared.option.Option.the-variants.{Some, None}
 use Rattle.std.specs.declared.result.Result.{Result}
 use Rattle.std.specs.declared.result.Result.the-variants.{Ok, Err}
 use Rattle.ternary.specs.declared.refusal.Refusal.{Refusal}
-use Rattle.ternary.specs.declared.refusal.Refusal.the-variants.{Malformed, OutputTooShort}
+use Rattle.ternary.specs.declared.refusal.Refusal.the-variants.{OutputTooShort}
+use Rattle.ternary.specs.Refusals.{refuseOr}
 use Rattle.ternary.specs.declared.words.StateNo.{StateNo}
 use Rattle.fields.specs.Fields.{word, long, be16, be32, written, check, orElse, firstOf, eachFault}
 use Rattle.automaton.specs.declared.words.ByteRange.{ByteRange}
@@ -149,11 +150,6 @@ headerOf file = record { states = word file 5; start = stateNo (word file 7) }
 -- there are places for the successors and the classes of n states
 abbrev pub roomFor : ℕ → ℕ → ℕ → Bool
 roomFor n successors classes = leb (256 * n) successors && leb n classes
-
--- a fault refuses by its offset, and without one the answer stands
-abbrev pub refuseOr : {X : Type 0} → Option ℕ → Result X Refusal → Result X Refusal
-refuseOr None answer = answer
-refuseOr (Some at) answer = Err (Malformed at)
 
 -- the answer, by the lengths of the two buffers: a fault, then a buffer that is too short, else the header
 abbrev pub readAnswer : List ℕ → ℕ → ℕ → Result Header Refusal

@@ -6,33 +6,25 @@ use lib.Chars.{codes}
 use lib.Dec.{eqb, leb}
 use lib.ListN.{length}
 use Rattle.std.specs.Written.{decimal}
+use Rattle.std.specs.declared.option.Option.{Option}
+use Rattle.std.specs.declared.option.Option.the-variants.{Some, None}
 use Rattle.std.specs.declared.result.Result.{Result}
 use Rattle.std.specs.declared.result.Result.the-variants.{Ok, Err}
 use Rattle.ternary.specs.declared.refusal.Refusal.{Refusal}
-use Rattle.ternary.specs.declared.refusal.Refusal.the-variants.{BadAutomaton, WorkTooShort, OutputTooShort, TooManyEntries, CardFull, CardTooSmall, NoEntry, NotLoaded, PieceTooLong, Malformed, Mismatch, WrongEntry}
-use Rattle.ternary.specs.Refusals.{number}
+use Rattle.ternary.specs.declared.refusal.Refusal.the-variants.{OutputTooShort}
+use Rattle.ternary.specs.Refusals.{number, offset}
 use Rattle.automaton.specs.declared.words.Header.{Header}
 use Rattle.automaton.specs.File.{decode, classes, readAnswer}
 use Rattle.printed.specs.declared.summary.Summary.{Summary}
 
--- where a file or an image is malformed; other refusals have no place
-abbrev pub placeText : Refusal → List ℕ
-placeText BadAutomaton = []
-placeText WorkTooShort = []
-placeText OutputTooShort = []
-placeText TooManyEntries = []
-placeText CardFull = []
-placeText CardTooSmall = []
-placeText (NoEntry p) = []
-placeText NotLoaded = []
-placeText PieceTooLong = []
-placeText (Malformed at) = codes " at " ++ decimal at
-placeText Mismatch = []
-placeText (WrongEntry s b) = []
+-- a refusal's number, and its offset if it has one
+abbrev pub numberText : ℕ → Option ℕ → List ℕ
+numberText n None = codes "refused " ++ decimal n
+numberText n (Some at) = codes "refused " ++ (decimal n ++ (codes " at " ++ decimal at))
 
--- a refusal: its number, and its place if it has one
+-- a refusal as it is printed
 abbrev pub refusalText : Refusal → List ℕ
-refusalText e = codes "refused " ++ (decimal (number e) ++ placeText e)
+refusalText e = numberText (number e) (offset e)
 
 -- how many classes mark: those from 1 to 255
 abbrev pub marking : List ℕ → ℕ

@@ -11,8 +11,8 @@ pub fn refusal_line(heap: Global, refusal: Refusal) -> Result<String, AllocError
     ensures { λ r. ⌜ made r (λ s. string-bytes s ≡ refusalText refusal) ⌝ }
 {
     let number = refusal.number();
-    match refusal {
-        Refusal::Malformed(at) => format!(heap, "refused {number} at {at}"),
-        _ => format!(heap, "refused {number}"),
+    match refusal.offset() {
+        Some(at) => format!(heap, "refused {number} at {at}"),
+        None => format!(heap, "refused {number}"),
     }
 }

@@ -72,3 +72,14 @@ module _ (e : Entry) (es : List Entry) (code byte : ℕ) where
 pub first-is-first : (es : List Entry) (code byte : ℕ) → IsFirst es code byte (first es code byte)
 first-is-first [] code byte = tt
 first-is-first (e ∷ es) code byte = is-first-pick e es code byte (matches e code byte) refl (first es code byte) (first-is-first es code byte)
+
+no-match : {P : Type 0} (m : Bool) → Decides m P → (P → ⊥) → m ≡ false
+no-match true d h = absurd (h (d .0 refl))
+no-match false d h = refl
+
+-- where none matches there is no answer
+pub first-none : (es : List Entry) (code byte : ℕ) → NoneMatch es code byte → first es code byte ≡ None
+first-none [] code byte none = refl
+first-none (e ∷ es) code byte none =
+    ap (λ (m : Bool). pick m e (first es code byte)) (no-match (matches e code byte) (matches-decides e code byte) (none .0))
+    ∙ first-none es code byte (none .1)

@@ -1,3 +1,4 @@
 pub mod BitLaws
 pub mod EntryLaws
 pub mod FirstMatch
+pub mod Telling

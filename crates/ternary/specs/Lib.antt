@@ -1,4 +1,5 @@
 pub mod Bits
 pub mod Entries
+pub mod Marks
 pub mod Match
 pub mod Refusals

@@ -1,5 +1,5 @@
 ghost use mathlib.Core.Path.{_≡_};
-ghost use Rattle.ternary.specs.Refusals.{number};
+ghost use Rattle.ternary.specs.Refusals.{number, offset};
 use crate::words::Progress;
 use crate::words::ProgressDebug;
 use crate::words::ProgressPartialEq;
@@ -54,6 +54,16 @@ impl Refusal {
             Refusal::Malformed(_) => 10,
             Refusal::Mismatch => 11,
             Refusal::WrongEntry(_, _) => 12,
+        }
+    }
+
+    // The offset at which a file or an image is malformed; other refusals have none.
+    pub fn offset(&self) -> Option<usize>
+        ensures { λ r. ⌜ r ≡ offset (now (self .entry)) ⌝ }
+    {
+        match self {
+            Refusal::Malformed(at) => Some(*at),
+            _ => None,
         }
     }
 }

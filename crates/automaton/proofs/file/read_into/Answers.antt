@@ -17,8 +17,8 @@ fill-requires c κs =
     let records = take-rest (c .args .file .now) 9 in
     record {
       sound = ap isSome (λ i. recordsFault (n i) (n i) 9 (records i)) ∙ accepted-parts (c .args .file .now) (sym (c .in-rest .ensures tt)) .records;
-      rows = c .if-successors-states .left;
-      marks = c .if-classes-states .left;
+      rows = omega arith;
+      marks = omega arith;
     }
 
 pub returns : need.returns
@@ -27,7 +27,7 @@ returns c =
     let n = ap (λ h. h .states) (c .header-header .ensures) in
     let records = take-rest file 9 in
     let states : recordsIn (c .header-header .result .states) _ ≡ recordsIn (word file 5) (drop 9 file) = λ i. recordsIn (n i) (records i) in
-    let ok = read-ok file (length (c .args .successors .now)) (length (c .args .classes .now)) (sym (c .in-rest .ensures tt)) (omega (arith, n, c .if-successors-states .left)) (omega (arith, n, c .if-classes-states .left)) in
+    let ok = read-ok file (length (c .args .successors .now)) (length (c .args .classes .now)) (sym (c .in-rest .ensures tt)) (omega (arith, n)) (omega (arith, n)) in
     record {
       answer = ap Ok (c .header-header .ensures) ∙ sym ok;
       successors = c .fill .ensures .rows ∙ ap (λ (l : List StateRecord). written (c .args .successors .now) 0 (joined rowOf l)) states;

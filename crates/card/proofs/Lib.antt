@@ -1,0 +1,2 @@
+pub mod InTandem
+pub mod Places

@@ -1,0 +1,3 @@
+pub mod list;
+pub mod rules;
+pub mod tandem;

@@ -1,0 +1,4 @@
+mod raw;
+pub mod reader;
+mod rules;
+pub mod writer;
