@@ -1,10 +1,6 @@
 -- Entries with equal fields are equal.
 use mathlib.Core.Path.{_≡_}
 use mathlib.Core.HLevel.{isProp→PathP}
-<<<<<<< HEAD
-use Prim.Native.Nat.{ℕ}
-=======
->>>>>>> main
 use native.Mathlib.Nat.{ℕ-set}
 use lib.Bits.{bitAnd}
 use Rattle.ternary.specs.declared.entry.Entry.{Entry}
