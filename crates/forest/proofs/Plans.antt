@@ -1,7 +1,7 @@
 -- Arrays that were found and coded hold the forest of an automaton. Assumes nothing.
 use mathlib.Core.Path.{_≡_, refl, sym, ap, subst, _∙_}
 use mathlib.Core.Bool.{Bool, true, false, cond}
-use mathlib.Core.List.{List}
+use mathlib.Core.List.{List, _++_}
 use Prim.Native.Nat.{ℕ, _^_, _≤_, _<_}
 use native.Mathlib.Omega.{arith}
 use lib.Dec.{leb}
@@ -9,6 +9,7 @@ use lib.ListN.{length, getD}
 use Rattle.std.specs.declared.option.Option.{Option}
 use Rattle.std.specs.declared.option.Option.the-variants.{Some, None}
 use Rattle.std.proofs.shelf.Tests.{cond-true, cond-false, leb-true, le-leb, false≢true}
+use Rattle.std.proofs.shelf.Lists.{getD-append-left}
 use Rattle.automaton.specs.Runs.{Dfa}
 use Rattle.forest.specs.Codes.{forestIn, Described}
 use Rattle.forest.specs.Deferment.{joinedForest, looseForest, forestOf}
@@ -72,3 +73,15 @@ module _ (a : Dfa) (parents : List (Option ℕ)) (depths : List ℕ) where
         let same = arrays-stand a parents depths .1 found in
         let small : forestIn parents depths .width ≤ 16 = omega (arith, same .width, ap (λ (g : Forest). g .width) is, forest-stands a .narrow few) in
         false≢true (sym (none-narrow (leb (forestIn parents depths .width) 16) (forestIn parents depths .width) wide) ∙ le-leb (forestIn parents depths .width) 16 small)
+
+-- a plan in the first places of longer arrays
+pub planned-front : (a : Dfa) (w : ℕ) (parents parents′ : List (Option ℕ)) (depths depths′ codes codes′ masks masks′ : List ℕ) →
+    length parents ≡ a .states → length depths ≡ a .states → length codes ≡ a .states → length masks ≡ a .states →
+    Planned a w parents depths codes masks → Planned a w (parents ++ parents′) (depths ++ depths′) (codes ++ codes′) (masks ++ masks′)
+planned-front a w parents parents′ depths depths′ codes codes′ masks masks′ lp ld lc lm p = record {
+  wide = p .wide;
+  narrow-enough = p .narrow-enough;
+  parent-at = λ s h. getD-append-left parents parents′ None s (omega (arith, lp)) ∙ p .parent-at s h;
+  depth-at = λ s h. getD-append-left depths depths′ 0 s (omega (arith, ld)) ∙ p .depth-at s h;
+  coded = λ s h. (getD-append-left codes codes′ 0 s (omega (arith, lc)) ∙ p .coded s h .0, getD-append-left masks masks′ 0 s (omega (arith, lm)) ∙ p .coded s h .1);
+}

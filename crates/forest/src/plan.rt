@@ -21,35 +21,37 @@ pub struct Plan {
     masks: [u16; 512],
 }
 
-// The plan of an automaton; the shared counts of its states are worked out in the lent numbers.
-pub fn plan(automaton: Automaton<'_>, work: &mut [u32]) -> Result<Plan, Refusal>
-    ensures { λ r. ⌜ PlanAnswer (handed (automaton .entry)) (now (work .entry)) (now (work .exit)) r ⌝ }
-{
-    automaton.limits()?;
-    let states = automaton.states as usize;
-    if work.len() < states * states + 8192 {
-        return Err(Refusal::WorkTooShort);
+impl Plan {
+    // The plan of an automaton; the shared counts of its states are worked out in the lent numbers.
+    pub fn of(automaton: Automaton<'_>, work: &mut [u32]) -> Result<Plan, Refusal>
+        ensures { λ r. ⌜ PlanAnswer (handed (automaton .entry)) (now (work .entry)) (now (work .exit)) r ⌝ }
+    {
+        automaton.limits()?;
+        let states = automaton.states as usize;
+        if work.len() < states * states + 8192 {
+            return Err(Refusal::WorkTooShort);
+        }
+        let mut parents = [None; 512];
+        let mut depths = [0; 512];
+        let mut codes = [0; 512];
+        let mut masks = [0; 512];
+        let width = plan_in(
+            automaton,
+            work,
+            &mut parents[0..states],
+            &mut depths[0..states],
+            &mut codes[0..states],
+            &mut masks[0..states],
+        );
+        Ok(Plan {
+            states: automaton.states,
+            width,
+            parents,
+            depths,
+            codes,
+            masks,
+        })
     }
-    let mut parents = [None; 512];
-    let mut depths = [0; 512];
-    let mut codes = [0; 512];
-    let mut masks = [0; 512];
-    let width = plan_in(
-        automaton,
-        work,
-        &mut parents[0..states],
-        &mut depths[0..states],
-        &mut codes[0..states],
-        &mut masks[0..states],
-    );
-    Ok(Plan {
-        states: automaton.states,
-        width,
-        parents,
-        depths,
-        codes,
-        masks,
-    })
 }
 
 // Plans in lent arrays with one place a state, and answers the bits of a code. Where these pass 16, nothing is joined.

@@ -1,0 +1,15 @@
+use mathlib.Core.Path.{_≡_, refl}
+use native.Mathlib.Omega.{arith}
+use lib.ListN.{length}
+use Rattle.automaton.specs.Limits.{handed, dfa}
+use Rattle.forest.proofs.Plans.{planned-front}
+use Rattle.forest.proofs.plan.Plan.of.Needs as need
+
+pub returns : need.returns
+returns c =
+    let a = dfa (handed (c .args .automaton)) in
+    let w = c .plan-in-width in (
+      c .in-Continue-limits .ensures tt,
+      omega arith,
+      (refl, planned-front a (w .result) (w .last .parents) _ (w .last .depths) _ (w .last .codes) _ (w .last .masks) _ (omega arith) (omega arith) (omega arith) (omega arith) (w .ensures)),
+    )
