@@ -101,3 +101,10 @@ pub record Same (f : Forest) (parents : List (Option ℕ)) (depths : List ℕ) :
 abbrev pub ArraysStand : Type 0
 ArraysStand = (a : Dfa) (parents : List (Option ℕ)) (depths : List ℕ) →
     (Found a parents depths → Same (joinedForest a) parents depths) × (Loose a parents depths → Same (looseForest a) parents depths)
+
+-- what holds of the forest of an automaton: how its states are joined and defer, how its codes match its shadows, and that every table over it that keeps the byte rule gives each state its right successors
+pub record PlanLaws (a : Dfa) : Type 0 where
+  pub joining : Joining a (treesOf a)
+  pub deferment : Deferment a (treesOf a)
+  pub shadows : Shadows (forestOf a)
+  pub right : (words : ℕ → List ByteWord) → ByteRule a (forestOf a) words → Right a (forestOf a) words

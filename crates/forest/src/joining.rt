@@ -91,7 +91,12 @@ fn join_sharing(
 }
 
 // Joins the pairs that share 32 bytes or more, those that share more first.
-pub(crate) fn join_ranked(counts: &[u32], tree: &mut [u16], pairs: &mut [(u16, u16)], joined: &mut [bool])
+pub(crate) fn join_ranked(
+    counts: &[u32],
+    tree: &mut [u16],
+    pairs: &mut [(u16, u16)],
+    joined: &mut [bool],
+)
     requires few { ⌜ length (now tree) ≤ 512 ⌝ }
     requires room { ⌜ length (now tree) * length (now tree) ≤ length (now counts) ⌝ }
     requires sized { ⌜ Sized (now tree) (now pairs) (now joined) ⌝ }

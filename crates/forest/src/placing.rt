@@ -71,12 +71,7 @@ fn is_root(tree: &[u16], loop_counts: &[u16], s: usize) -> bool
 }
 
 // Places the roots at depth 0, and no other state yet.
-fn place_roots(
-    tree: &[u16],
-    loop_counts: &[u16],
-    depths: &mut [u16],
-    parents: &mut [Option<u16>],
-)
+fn place_roots(tree: &[u16], loop_counts: &[u16], depths: &mut [u16], parents: &mut [Option<u16>])
     requires sizes { ⌜ length (now depths) ≡ length (now tree) ⌝ ∗ ⌜ length (now parents) ≡ length (now tree) ⌝ ∗ ⌜ length (now «loop_counts») ≡ length (now tree) ⌝ }
     requires room { ⌜ length (now tree) < 65536 ⌝ }
     ensures depths { λ _. ⌜ ((s : ℕ) → s < length (now (tree .entry)) → getD (now (depths .exit)) s 0 ≡ cond (rootIn (now (tree .entry)) (now («loop_counts» .entry)) s) 0 (length (now (tree .entry)))) ⌝ }

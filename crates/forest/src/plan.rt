@@ -3,7 +3,8 @@ ghost use mathlib.Core.Path.{_≡_};
 ghost use Prim.Native.Nat.{_+_, _*_, _≤_};
 ghost use lib.ListN.{length};
 ghost use Rattle.automaton.specs.Limits.{handed, Within, dfa};
-ghost use Rattle.std.specs.Results.{Cases};
+ghost use Rattle.std.specs.Vec.{made};
+ghost use Rattle.forest.specs.Laws.{PlanLaws};
 ghost use Rattle.forest.specs.Plan.{Planned, PlanAnswer};
 use crate::coding::code_states;
 use crate::deferment::defer;
@@ -24,7 +25,8 @@ pub struct Plan {
 impl Plan {
     // The plan of an automaton; the shared counts of its states are worked out in the lent numbers.
     pub fn of(automaton: Automaton<'_>, work: &mut [u32]) -> Result<Plan, Refusal>
-        ensures { λ r. ⌜ PlanAnswer (handed (automaton .entry)) (now (work .entry)) (now (work .exit)) r ⌝ }
+        ensures answer { λ r. ⌜ PlanAnswer (handed (automaton .entry)) (now (work .entry)) (now (work .exit)) r ⌝ }
+        ensures laws { λ r. ⌜ made r (λ _. PlanLaws (dfa (handed (automaton .entry)))) ⌝ }
     {
         automaton.limits()?;
         let states = automaton.states as usize;

@@ -24,10 +24,10 @@ loop-t-again c =
     let t = c .loop-t .t in
     let long = c .loop-t .inv .0 in
     let Goal : List ℕ → List (ℕ × ℕ) → List Bool → Type 0 = λ tree pairs joined.
-        (length tree ≡ length (c .args .tree .now))
-        × Sized tree pairs joined
-        × ((a : Dfa) → Shares a (c .args .counts .now) (length (c .args .tree .now)) → (f : Trees) → Tracks f (c .args .tree .now) (c .args .pairs .now) (c .args .joined .now) →
-        Tracks (kruskal f (pairsOf a (c .args .shared) s (t + 1))) tree pairs joined) in
+    (length tree ≡ length (c .args .tree .now))
+    × Sized tree pairs joined
+    × ((a : Dfa) → Shares a (c .args .counts .now) (length (c .args .tree .now)) → (f : Trees) → Tracks f (c .args .tree .now) (c .args .pairs .now) (c .args .joined .now) →
+    Tracks (kruskal f (pairsOf a (c .args .shared) s (t + 1))) tree pairs joined) in
     elim (c .if-shares .came) [
       | then-shares w ↦
           subst (λ (X : Type 0). X) (λ i. Goal (sym (w .tree-is) i) (sym (w .pairs-is) i) (sym (w .joined-is) i)) (
