@@ -1,0 +1,10 @@
+pub mod Words
+pub mod Counting
+pub mod Forest
+pub mod Codes
+pub mod Deferment
+pub mod Joining
+pub mod Placing
+pub mod Table
+pub mod Laws
+pub mod Plan

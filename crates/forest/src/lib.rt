@@ -1,0 +1,7 @@
+mod codes;
+mod coding;
+mod deferment;
+mod joining;
+mod placing;
+pub mod plan;
+mod sharing;
