@@ -11,7 +11,6 @@ use Rattle.forest.proofs.codes.number_states.Needs.{in-None, in-Some}
 pub add-roots : need.add-roots
 add-roots c = omega (arith, deferring-bound (parentsIn (c .args .parents .now)) None (c .loop-s .s))
 
-
 pub loop-s-holds : need.loop-s-holds
 loop-s-holds c = tally-none (parentsIn (c .args .parents .now))
 
