@@ -16,10 +16,10 @@ child-bits-bits-requires c κs = λ p hp. omega (arith, c .number-states-roots .
 pub bits-for-requires : need.bits-for-requires
 bits-for-requires c κs = omega (arith, c .number-states-roots .ensures .roots, deferring-bound (parentsIn (c .args .parents .now)) None (length (c .args .parents .now)))
 
-pub returns-then-width-gt16 : need.returns-then-width-gt16
-returns-then-width-gt16 c =
+pub returns-then-width-gt-MOST-BITS : need.returns-then-width-gt-MOST-BITS
+returns-then-width-gt-MOST-BITS c =
     let f = forestIn (c .args .parents .now) (c .args .depths .now) in
-    let wide : 16 < f .width = omega (arith, c .code-width-width .ensures, c .if-width-gt16 .taken) in
+    let wide : 16 < f .width = omega (arith, c .code-width-width .ensures, c .if-width-gt-MOST-BITS .taken) in
     record {
       width = sym (cond-false (leb (f .width) 16) (Some (f .width)) None (lt-leb (f .width) 16 wide));
       codes = λ h. absurd (omega arith);
@@ -33,7 +33,7 @@ write-masks-requires c κs =
     let depths = c .args .depths .now in
     record {
       few = omega arith;
-      narrow = c .if-width-gt16 .left;
+      narrow = c .if-width-gt-MOST-BITS .left;
       within = λ s hs.
           let hp : s < length parents = omega (arith, c .pre .masks) in
           omega (arith, c .prefix-lens-lens .ensures s hp, c .code-width-width .ensures, len-within parents depths (c .pre .forest) s hp);
@@ -43,7 +43,7 @@ pub returns : need.returns
 returns c =
     let f = forestIn (c .args .parents .now) (c .args .depths .now) in
     let w : c .code-width-width .result ≡ f .width = c .code-width-width .ensures in
-    let narrow : f .width ≤ 16 = omega (arith, w, c .if-width-gt16 .left) in
+    let narrow : f .width ≤ 16 = omega (arith, w, c .if-width-gt-MOST-BITS .left) in
     record {
       width = ap (λ (x : ℕ). Some x) w ∙ sym (cond-true (leb (f .width) 16) (Some (f .width)) None (le-leb (f .width) 16 narrow));
       codes = λ h. c .write-codes .ensures;
