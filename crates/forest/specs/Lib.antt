@@ -2,6 +2,7 @@ pub mod Words
 pub mod Counting
 pub mod Forest
 pub mod Codes
+pub mod Arrays
 pub mod Deferment
 pub mod Joining
 pub mod Placing

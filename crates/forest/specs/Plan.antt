@@ -1,13 +1,11 @@
 -- What planning answers: who defers to whom, and the codes and shadows. Assumes nothing.
 use mathlib.Core.Path.{_≡_}
-use mathlib.Core.Bool.{cond}
 use mathlib.Core.Logic.{_⊎_}
 use mathlib.Core.List.{List, []}
 use Prim.Native.Nat.{ℕ, _+_, _*_, _<_, _≤_}
-use lib.Dec.{leb}
 use lib.ListN.{length, getD}
 use Rattle.std.specs.declared.option.Option.{Option}
-use Rattle.std.specs.declared.option.Option.the-variants.{Some, None}
+use Rattle.std.specs.declared.option.Option.the-variants.{None}
 use Rattle.std.specs.declared.result.Result.{Result}
 use Rattle.std.specs.declared.result.Result.the-variants.{Ok, Err}
 use Rattle.ternary.specs.declared.refusal.Refusal.{Refusal}
@@ -17,10 +15,6 @@ use Rattle.automaton.specs.Runs.{Dfa}
 use Rattle.forest.specs.declared.plan.Plan.{Plan}
 use Rattle.forest.specs.Forest.{Forest, code, mask}
 use Rattle.forest.specs.Deferment.{forestOf}
-
--- a width, if it does not pass 16
-abbrev pub narrow : ℕ → Option ℕ
-narrow w = cond (leb w 16) (Some w) None
 
 -- arrays hold the codes and the masks of the shadows of the first m states
 abbrev pub Coded : Forest → ℕ → List ℕ → List ℕ → Type 0

@@ -1,5 +1,4 @@
 mod codes;
-mod coding;
 mod deferment;
 mod joining;
 mod placing;

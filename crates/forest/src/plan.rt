@@ -6,7 +6,7 @@ ghost use Rattle.automaton.specs.Limits.{handed, Within, dfa};
 ghost use Rattle.std.specs.Vec.{made};
 ghost use Rattle.forest.specs.Laws.{PlanLaws};
 ghost use Rattle.forest.specs.Plan.{Planned, PlanAnswer};
-use crate::coding::code_states;
+use crate::codes::codes_of;
 use crate::deferment::defer;
 use crate::deferment::loosen;
 use automaton::words::Automaton;
@@ -15,7 +15,7 @@ use ternary::refusal::Refusal;
 // The forest of an automaton with the codes of its states, in the first places of its arrays.
 pub struct Plan {
     states: u16,
-    width: u32,
+    width: u8,
     parents: [Option<u16>; 512],
     depths: [u16; 512],
     codes: [u16; 512],
@@ -64,7 +64,7 @@ fn plan_in(
     depths: &mut [u16],
     codes: &mut [u16],
     masks: &mut [u16],
-) -> u32
+) -> u8
     requires within { ⌜ Within (handed automaton) ⌝ }
     requires room { ⌜ automaton .states * automaton .states ≤ length (now counts) ⌝ }
     requires found { ⌜ (length (now parents) ≡ automaton .states) × (length (now depths) ≡ automaton .states) ⌝ }
@@ -72,11 +72,11 @@ fn plan_in(
     ensures { λ r. ⌜ Planned (dfa (handed (automaton .entry))) r (now (parents .exit)) (now (depths .exit)) (now (codes .exit)) (now (masks .exit)) ⌝ }
 {
     defer(automaton, counts, depths, parents);
-    if let Some(width) = code_states(parents, depths, codes, masks) {
+    if let Some(width) = codes_of(parents, depths, codes, masks) {
         return width;
     }
     loosen(depths, parents);
-    match code_states(parents, depths, codes, masks) {
+    match codes_of(parents, depths, codes, masks) {
         Some(width) => width,
         None => unreachable(),
     }
