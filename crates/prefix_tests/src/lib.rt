@@ -1,6 +1,6 @@
+// Prefix lists of rows whose least number of words is worked out by hand, and of rows of eight blocks beside a
+// search coded apart.
 ghost use Prim.Native.Nat.{_<_};
-
-// Prefix lists of rows whose least number of words is worked out by hand, and of rows of eight blocks beside a search coded apart.
 
 #[cfg(test)]
 mod tests {
