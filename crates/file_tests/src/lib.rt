@@ -75,12 +75,13 @@ mod tests {
     // A file that is cut short is refused at its length below 9 bytes, and then at the length of the rest.
     #[test]
     fn refuses_files_cut_short() -> Result<(), Fail> {
+        let file = *AB;
         for len in 0..40 {
             let mut successors = [StateNo(9); 768];
             let mut classes = [9; 3];
             let offset = if len < 9 { len } else { 1 };
             check_eq(
-                read(&AB[0..len], &mut successors, &mut classes),
+                read(&file[0..len], &mut successors, &mut classes),
                 Err(Refusal::Malformed(offset)),
             )?;
         }
