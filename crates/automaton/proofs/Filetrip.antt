@@ -1,13 +1,13 @@
 -- Writing and reading an automaton file undo each other.
-use Rattle.std.proofs.Common.{◌≡◌, ℕ, zero, suc, ◌+◌, ◌-◌, ◌*◌, ◌/◌, ◌%◌, ◌<◌, ◌≤◌, Bool, true, false, ◌&&◌, eqb, ltb, leb, List, [], ◌∷◌, ◌++◌, map, length, get_or, take, drop, is_some, Some, None, Option, sym, refl, ap, ◌∙◌, subst, append_assoc, append_nil, add-zero, zero-add, arith, length-append, length-drop, take-append-drop, take-add}
-use Rattle.std.specs.List.{range_with_len, flat_map, AllByRecursion as All}
+use Rattle.std.proofs.Common.{◌≡◌, ℕ, zero, suc, ◌+◌, ◌-◌, ◌*◌, ◌/◌, ◌%◌, ◌<◌, ◌≤◌, false, eqb, ltb, leb, List, [], ◌∷◌, ◌++◌, map, length, get_or, take, drop, is_some, None, Option, sym, refl, ap, ◌∙◌, subst, zero-add, arith, length-append, length-drop, take-append-drop, take-add}
+use Rattle.std.specs.List.{range_with_len, flat_map, AllByRecursion}
 use Rattle.std.proofs.lemmas.List.FromFn.{length-map-range_with_len, fill_by_all}
 use Rattle.std.proofs.ByRecursion.{All-get_or}
-use Rattle.std.proofs.lemmas.List.{drop-drop, drop_more, drop_at, get_or-drop, nil_from_length}
-use Rattle.std.proofs.lemmas.Bool.{leb-true, ltb-true, eqb-true, and_parts, and_from, eq-eqb, le-leb, lt-ltb}
+use Rattle.std.proofs.lemmas.List.{drop_more, drop_at, get_or-drop, nil_from_length}
+use Rattle.std.proofs.lemmas.Bool.{leb-true, ltb-true, eqb-true, le-leb, lt-ltb}
 use Rattle.automaton.specs.declared.words.ByteRange.{ByteRange}
 use Rattle.fields.specs.Fields.{word, long, be16, be32, or_else, check, each_fault}
-use Rattle.automaton.specs.File.{state_no, StateRecord, Source, range_bytes, record_bytes, body, encode, range_at, ranges_in, record_size, record_in, records_in, decode, range_fault, length_fits, record_fault, records_fault, fields_fault, fault}
+use Rattle.automaton.specs.File.{state_no, StateRecord, Source, range_bytes, record_bytes, body, encode, range_at, ranges_in, record_size, record_in, records_in, decode, range_fault, length_fits, record_fault, records_fault, fault}
 use Rattle.automaton.specs.Laws.{RangeOk, RecordOk, SourceOk}
 use Rattle.fields.proofs.Bytes.{be16_read, be16_back, be32_read, be32_back, front, joined_made, byte_of_item}
 use Rattle.fields.proofs.Faults.{both_pass, check_pass, pass, last_fault, each_pass}
@@ -59,11 +59,11 @@ state_back n rest small good =
     ∙ (ap (λ (l : List ℕ). l ++ take (4 * q) (drop 5 rest)) (sym five)
     ∙ (sym (take-add 5 (4 * q) rest) ∙ ap (λ (k : ℕ). take k rest) size))
 
-all_made : {X : Type 0} (P : X → Type 0) (make : ℕ → X) → ((k : ℕ) → P (make k)) → (a n : ℕ) → All P (map make (range_with_len a n))
+all_made : {X : Type 0} (P : X → Type 0) (make : ℕ → X) → ((k : ℕ) → P (make k)) → (a n : ℕ) → AllByRecursion P (map make (range_with_len a n))
 all_made P make each a zero = tt
 all_made P make each a (suc n) = (each a, all_made P make each (a + 1) n)
 
-all_both : {X : Type 0} (P Q R : X → Type 0) → ((x : X) → P x → Q x → R x) → (xs : List X) → All P xs → All Q xs → All R xs
+all_both : {X : Type 0} (P Q R : X → Type 0) → ((x : X) → P x → Q x → R x) → (xs : List X) → AllByRecursion P xs → AllByRecursion Q xs → AllByRecursion R xs
 all_both P Q R f [] p q = tt
 all_both P Q R f (x ∷ xs) p q = (f x p.0 q.0, all_both P Q R f xs p.1 q.1)
 
@@ -89,7 +89,7 @@ state_ok n at rest small h =
       all_both _ _ (RangeOk n) (λ r p t. (p.0, t, p.1)) (record_in rest).ranges rules tops,
     )
 
-states_back : (n left at : ℕ) (rest : List ℕ) → ((k : ℕ) → get_or rest k 0 < 256) → is_some (records_fault n left at rest) ≡ false → All (RecordOk n) (records_in left rest) × (flat_map record_bytes (records_in left rest) ≡ rest)
+states_back : (n left at : ℕ) (rest : List ℕ) → ((k : ℕ) → get_or rest k 0 < 256) → is_some (records_fault n left at rest) ≡ false → AllByRecursion (RecordOk n) (records_in left rest) × (flat_map record_bytes (records_in left rest) ≡ rest)
 states_back n zero at rest small h = (tt, sym (nil_from_length rest (eqb-true (length rest) 0 (check_pass (eqb (length rest) 0) at h))))
 states_back n (suc left) at rest small h =
     let size : ℕ = record_size rest in
@@ -131,12 +131,12 @@ file_comes_back file none small =
     let states : List StateRecord = records_in n (drop 9 file) in
     let records = states_back n n 9 (drop 9 file) (drop_small file 9 small) good.records in
     let count : length states ≡ n = length-records_in n (drop 9 file) in (
-      subst (λ (k : ℕ). (1 ≤ k) × (k ≤ 512) × (word file 7 < k) × All (RecordOk k) states) (sym count)
+      subst (λ (k : ℕ). (1 ≤ k) × (k ≤ 512) × (word file 7 < k) × AllByRecursion (RecordOk k) states) (sym count)
           (good.some, good.few, good.start, records.0),
       file_back file small good.room (body (decode file)) (body_back file small good.room states count records.1) good.version good.size,
     )
 
-ranges_fine : (n at : ℕ) (rs : List ByteRange) → All (RangeOk n) rs → each_fault (range_fault n) 4 at rs ≡ None
+ranges_fine : (n at : ℕ) (rs : List ByteRange) → AllByRecursion (RangeOk n) rs → each_fault (range_fault n) 4 at rs ≡ None
 ranges_fine n at [] ok = refl
 ranges_fine n at (r ∷ rs) ok =
     ap (λ (f : Option ℕ). or_else f (each_fault (range_fault n) 4 (at + 4) rs))
@@ -192,14 +192,14 @@ module _ (n : ℕ) (s : StateRecord) (more : List ℕ) (few : n ≤ 512) (ok : R
       ∙ (pass (ltb (word bs 3) n) (at + 3) _ (lt-ltb (word bs 3) n (omega (arith, default_read, ok.1)))
       ∙ (last_fault _ ∙ (ap (each_fault (range_fault n) 4 (at + 5)) ranges_read ∙ ranges_fine n (at + 5) s.ranges ok.3)))
 
-states_read : (n : ℕ) (ss : List StateRecord) → n ≤ 512 → All (RecordOk n) ss → records_in (length ss) (flat_map record_bytes ss) ≡ ss
+states_read : (n : ℕ) (ss : List StateRecord) → n ≤ 512 → AllByRecursion (RecordOk n) ss → records_in (length ss) (flat_map record_bytes ss) ≡ ss
 states_read n [] few ok = refl
 states_read n (s ∷ ss) few ok =
     let this = state_read n s (flat_map record_bytes ss) few ok.0 in
     let rest = rest_read n s (flat_map record_bytes ss) few ok.0 in
     (λ i. this i ∷ records_in (length ss) (rest i)) ∙ ap (λ (l : List StateRecord). s ∷ l) (states_read n ss few ok.1)
 
-records_read : (n at : ℕ) (ss : List StateRecord) → n ≤ 512 → All (RecordOk n) ss → records_fault n (length ss) at (flat_map record_bytes ss) ≡ None
+records_read : (n at : ℕ) (ss : List StateRecord) → n ≤ 512 → AllByRecursion (RecordOk n) ss → records_fault n (length ss) at (flat_map record_bytes ss) ≡ None
 records_read n at [] few ok = refl
 records_read n at (s ∷ ss) few ok =
     let bs : List ℕ = record_bytes s ++ flat_map record_bytes ss in
@@ -207,7 +207,7 @@ records_read n at (s ∷ ss) few ok =
     ∙ (ap (records_fault n (length ss) (at + record_size bs)) (rest_read n s (flat_map record_bytes ss) few ok.0)
     ∙ records_read n (at + record_size bs) ss few ok.1)
 
-length_records : (n : ℕ) (ss : List StateRecord) → All (RecordOk n) ss → length (flat_map record_bytes ss) ≤ 65538 * length ss
+length_records : (n : ℕ) (ss : List StateRecord) → AllByRecursion (RecordOk n) ss → length (flat_map record_bytes ss) ≤ 65538 * length ss
 length_records n [] ok = omega arith
 length_records n (s ∷ ss) ok =
     let ranges = length_joined range_bytes 4 (λ _. refl) s.ranges in

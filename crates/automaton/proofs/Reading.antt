@@ -1,12 +1,12 @@
 -- What reading owes, from its answer and what it leaves.
-use Rattle.std.proofs.Common.{◌≡◌, ℕ, zero, suc, ◌+◌, ◌*◌, ◌<◌, ◌≤◌, Bool, true, false, cond, ◌&&◌, leb, List, [], ◌∷◌, ◌++◌, map, length, get_or, take, drop, Some, None, Ok, Err, Option, Result, sym, refl, ap, ◌∙◌, subst, ⊎_elim, zero-add, arith, length-take, MatchResult}
-use Rattle.std.specs.List.{range_with_len, flat_map, AllByRecursion as All}
+use Rattle.std.proofs.Common.{◌≡◌, ℕ, zero, suc, ◌+◌, ◌*◌, ◌<◌, ◌≤◌, Bool, true, false, cond, ◌&&◌, leb, List, [], ◌∷◌, ◌++◌, map, length, get_or, take, drop, Some, None, Ok, Err, Option, Result, sym, refl, ap, ◌∙◌, subst, ⊎_elim, arith, MatchResult}
+use Rattle.std.specs.List.{range_with_len, flat_map, AllByRecursion}
 use Rattle.std.proofs.lemmas.List.FromFn.{length-map-range_with_len, get_or-map-range_with_len}
-use Rattle.std.proofs.ByRecursion.{All-append, All-from_get_or, All-get_or}
-use Rattle.std.proofs.lemmas.List.{take_at, length-map, get_or-map, append_nil}
-use Rattle.std.proofs.lemmas.Bool.{cond-true, cond-false, cases_eq, and_from, and_parts, le-leb, leb-true, lt-leb}
+use Rattle.std.proofs.ByRecursion.{All-append}
+use Rattle.std.proofs.lemmas.List.{take_at, length-map, get_or-map, append-nil}
+use Rattle.std.proofs.lemmas.Bool.{cond-true, cond-false, cases_eq, and_from, le-leb, lt-leb}
 use Rattle.ternary.specs.declared.refusal.Refusal.{Refusal}
-use Rattle.ternary.specs.declared.refusal.Refusal.TheVariants.{Malformed, OutputTooShort}
+use Rattle.ternary.specs.declared.refusal.Refusal.TheVariants.{OutputTooShort}
 use Rattle.ternary.specs.Refusals.{refuse_or}
 use Rattle.ternary.specs.declared.words.StateNo.{StateNo}
 use Rattle.fields.specs.Fields.{word, written}
@@ -15,9 +15,9 @@ use Rattle.fields.proofs.Writes.{length_joined}
 use Rattle.automaton.specs.declared.words.ByteRange.{ByteRange}
 use Rattle.automaton.specs.declared.words.Header.{Header}
 use Rattle.automaton.specs.Runs.{Dfa}
-use Rattle.automaton.specs.Limits.{Handed, Within, dfa}
-use Rattle.automaton.specs.File.{state_no, StateRecord, Source, in_range, next_by, row_of, class_of, rows, classes, encode, records_in, decode, fault, header_of, room_for, read_answer, filled}
-use Rattle.automaton.specs.Laws.{RangeOk, RecordOk, SourceOk, Room, Sound, one_byte, record_of, source_of, file_of, Same, held_in, KeepsLimits, IsItsSourcesFile, GivesSourceBack, GivesAutomatonBack}
+use Rattle.automaton.specs.Limits.{dfa}
+use Rattle.automaton.specs.File.{state_no, StateRecord, Source, in_range, next_by, row_of, class_of, rows, classes, decode, fault, header_of, room_for, read_answer, filled}
+use Rattle.automaton.specs.Laws.{RangeOk, RecordOk, SourceOk, Room, Sound, one_byte, record_of, source_of, Same, held_in, KeepsLimits, IsItsSourcesFile, GivesSourceBack, GivesAutomatonBack}
 use Rattle.automaton.proofs.Records.{length-records_in, read_ok}
 use Rattle.automaton.proofs.Filetrip.{file_comes_back, source_comes_back}
 
@@ -30,16 +30,16 @@ answered (Some at) room x h e = let z : ◌≡◌ {A = ℕ} 0 1 = cc in absurd (
 
 -- successors below the number of states
 
-next_below : (n : ℕ) (rs : List ByteRange) (default : StateNo) (b : ℕ) → default.0 < n → All (RangeOk n) rs → (next_by rs default b).0 < n
+next_below : (n : ℕ) (rs : List ByteRange) (default : StateNo) (b : ℕ) → default.0 < n → AllByRecursion (RangeOk n) rs → (next_by rs default b).0 < n
 next_below n [] default b d ok = d
 next_below n (r ∷ rs) default b d ok =
     elim (in_range r b) as (λ t. (cond t r.next (next_by rs default b)).0 < n) [ true ↦ ok.0.2 | false ↦ next_below n rs default b d ok.1 ]
 
-all_made : {X : Type 0} (P : X → Type 0) (make : ℕ → X) (a n : ℕ) → ((k : ℕ) → k < a + n → P (make k)) → All P (map make (range_with_len a n))
+all_made : {X : Type 0} (P : X → Type 0) (make : ℕ → X) (a n : ℕ) → ((k : ℕ) → k < a + n → P (make k)) → AllByRecursion P (map make (range_with_len a n))
 all_made P make a zero each = tt
 all_made P make a (suc n) each = (each a (omega arith), all_made P make (a + 1) n (λ k h. each k (omega arith)))
 
-rows_below : (n : ℕ) (ss : List StateRecord) → All (RecordOk n) ss → All (λ s. s.0 < n) (flat_map row_of ss)
+rows_below : (n : ℕ) (ss : List StateRecord) → AllByRecursion (RecordOk n) ss → AllByRecursion (λ s. s.0 < n) (flat_map row_of ss)
 rows_below n [] ok = tt
 rows_below n (s ∷ ss) ok =
     All-append (λ (x : StateNo). x.0 < n) (row_of s) (flat_map row_of ss)
@@ -91,7 +91,7 @@ module _ (file : List ℕ) (small : (k : ℕ) → get_or file k 0 < 256) (succes
         few = omega (arith, ok.1, count);
         start_below = omega (arith, ok.2, count, start);
         successors_count = ap length held ∙ long;
-        successors_below = subst (All (λ (s : StateNo). s.0 < n)) (sym held) (rows_below n (decode file).states (subst (λ (k : ℕ). All (RecordOk k) (decode file).states) count ok.3));
+        successors_below = subst (AllByRecursion (λ (s : StateNo). s.0 < n)) (sym held) (rows_below n (decode file).states (subst (λ (k : ℕ). AllByRecursion (RecordOk k) (decode file).states) count ok.3));
         classes_count = ap length kinds ∙ many;
       }
 
@@ -137,7 +137,7 @@ length_states a = length-map-range_with_len (record_of a) 0 a.states
 source_ok : (a : Dfa) → Sound a → SourceOk (source_of a)
 source_ok a sound =
     let n = length_states a in
-    subst (λ (k : ℕ). (1 ≤ k) × (k ≤ 512) × (a.start < k) × All (RecordOk k) (source_of a).states) (sym n)
+    subst (λ (k : ℕ). (1 ≤ k) × (k ≤ 512) × (a.start < k) × AllByRecursion (RecordOk k) (source_of a).states) (sym n)
     (sound.some, sound.few, sound.start_below, all_made (RecordOk a.states) (record_of a) 0 a.states (λ s h. record_ok a sound s (omega arith)))
 
 -- the successor of the state s on the byte c stands at its place
@@ -167,7 +167,7 @@ module _ (a : Dfa) (successors successors' : List StateNo) (marks marks' : List 
       record {
         states = length_states a;
         start = refl;
-        next = λ s c hs hc. ap (λ (l : List StateNo). (get_or l (256 * s + c) (state_no 0)).0) (held ∙ sym (append_nil (rows (source_of a)))) ∙ ap (λ (x : StateNo). x.0) (row_place a [] s c hs hc);
+        next = λ s c hs hc. ap (λ (l : List StateNo). (get_or l (256 * s + c) (state_no 0)).0) (held ∙ sym (append-nil (rows (source_of a)))) ∙ ap (λ (x : StateNo). x.0) (row_place a [] s c hs hc);
         class = λ s h. ap (λ (l : List ℕ). get_or l s 0) kinds ∙ class_place a s h;
       }
 

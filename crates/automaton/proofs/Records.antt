@@ -1,16 +1,15 @@
 -- Ranges and records, one at a time.
-use Rattle.std.proofs.Common.{◌≡◌, ℕ, zero, suc, ◌+◌, ◌-◌, ◌*◌, ◌/◌, ◌%◌, ◌<◌, ◌≤◌, Bool, true, false, cond, ◌&&◌, eqb, ltb, leb, List, [], ◌∷◌, ◌++◌, map, length, get_or, take, drop, is_some, Some, None, Ok, Err, Option, sym, refl, ap, ◌∙◌, subst, arith}
-use Rattle.std.specs.List.{range_with_len}
+use Rattle.std.proofs.Common.{◌≡◌, ℕ, zero, suc, ◌+◌, ◌-◌, ◌*◌, ◌/◌, ◌%◌, ◌<◌, ◌≤◌, true, false, cond, ◌&&◌, eqb, ltb, leb, List, [], ◌∷◌, length, get_or, drop, is_some, None, Ok, Err, Option, sym, refl, ap, ◌∙◌, subst, arith}
 use Rattle.std.proofs.lemmas.List.{at_drop_more, at_drop_all, drop_more}
 use Rattle.std.proofs.lemmas.List.FromFn.{get_or-map-range_with_len, length-map-range_with_len}
-use Rattle.std.proofs.lemmas.Bool.{cond-true, cond-false, false≢true, and_from, and_parts, le-leb, leb-true, eq-eqb, eqb-true, lt-ltb, ltb-true}
+use Rattle.std.proofs.lemmas.Bool.{cond-true, cond-false, and_from, and_parts, le-leb, leb-true, eq-eqb, eqb-true, lt-ltb, ltb-true}
 use Rattle.fields.proofs.Faults.{passed, stopped, both_pass, check_pass, pass, last_fault}
 use Rattle.ternary.specs.declared.refusal.Refusal.TheVariants.{OutputTooShort}
 use Rattle.ternary.specs.Refusals.{refuse_or}
 use Rattle.ternary.specs.declared.words.StateNo.{StateNo}
 use Rattle.automaton.specs.declared.words.ByteRange.{ByteRange}
-use Rattle.fields.specs.Fields.{word, long, check, or_else, first_of, written, each_fault}
-use Rattle.automaton.specs.File.{fault, fields_fault, read_answer, header_of, room_for, StateRecord, range_at, ranges_in, in_range, next_by, record_size, length_fits, range_fault, record_fault, records_fault, record_in, records_in, row_of}
+use Rattle.fields.specs.Fields.{word, long, check, or_else, each_fault}
+use Rattle.automaton.specs.File.{fault, fields_fault, read_answer, header_of, room_for, StateRecord, range_at, ranges_in, in_range, next_by, record_size, length_fits, range_fault, record_fault, records_fault, record_in, records_in}
 
 module _ (bs : List ℕ) (count : ℕ) (default : StateNo) (byte i : ℕ) where
   module _ (h : i < count) where

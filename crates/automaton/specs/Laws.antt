@@ -1,6 +1,6 @@
 -- What reading owes, in words of the automaton: laws above the format's definitions. Assumes nothing.
 use Rattle.std.specs.Prelude.{◌≡◌, ℕ, ◌+◌, ◌*◌, ◌<◌, ◌≤◌, List, map, length, take, IfOk, Ok, Result, MatchResult, OnOk}
-use Rattle.std.specs.List.{range_with_len, AllByRecursion as All}
+use Rattle.std.specs.List.{range_with_len, AllByRecursion}
 use Rattle.ternary.specs.declared.refusal.Refusal.{Refusal}
 use Rattle.ternary.specs.declared.words.StateNo.{StateNo}
 use Rattle.fields.specs.Fields.{written}
@@ -16,11 +16,11 @@ RangeOk n r = (r.low ≤ r.high) × (r.high < 256) × (r.next.0 < n)
 
 -- a record of an automaton of n states, whose length fits two bytes
 abbrev pub RecordOk : ℕ → StateRecord → Type 0
-RecordOk n s = (s.class < 256) × (s.default.0 < n) × (3 + 4 * length s.ranges < 65536) × All (RangeOk n) s.ranges
+RecordOk n s = (s.class < 256) × (s.default.0 < n) × (3 + 4 * length s.ranges < 65536) × AllByRecursion (RangeOk n) s.ranges
 
 -- a source within the limits of the format
 abbrev pub SourceOk : Source → Type 0
-SourceOk a = (1 ≤ length a.states) × (length a.states ≤ 512) × (a.start < length a.states) × All (RecordOk (length a.states)) a.states
+SourceOk a = (1 ≤ length a.states) × (length a.states ≤ 512) × (a.start < length a.states) × AllByRecursion (RecordOk (length a.states)) a.states
 
 -- there are places for the successors and the classes of n states
 abbrev pub Room : ℕ → List StateNo → List ℕ → Type 0

@@ -1,6 +1,6 @@
 -- An automaton as it is handed to calls, its limits, and the automaton that it means. Assumes nothing.
 use Rattle.std.specs.Prelude.{◌≡◌, ℕ, ◌+◌, ◌*◌, ◌<◌, ◌≤◌, List, length, slice_index, slice_index_or}
-use Rattle.std.specs.List.{AllByRecursion as All}
+use Rattle.std.specs.List.{AllByRecursion}
 use Rattle.ternary.specs.declared.words.StateNo.{StateNo}
 use Rattle.automaton.specs.declared.words.Automaton.{Automaton}
 use Rattle.automaton.specs.Runs.{Dfa}
@@ -22,7 +22,7 @@ pub record Within (a : Handed) : Type 0 where
   pub few : a.states ≤ 512
   pub start_below : a.start < a.states
   pub successors_count : length a.successors ≡ 256 * a.states
-  pub successors_below : All (λ s. s.0 < a.states) a.successors
+  pub successors_below : AllByRecursion (λ s. s.0 < a.states) a.successors
   pub classes_count : length a.classes ≡ a.states
 
 -- the automaton that is meant: the successor of the state s on the byte b stands at place 256 s + b

@@ -1,3 +1,5 @@
+#![tactic(auto)]
+
 pub mod file;
 pub mod limits;
 pub mod words;

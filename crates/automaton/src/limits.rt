@@ -1,5 +1,5 @@
 ghost use Rattle.std.specs.Prelude.{◌≡◌, ◌<◌, Decides, MatchResult};
-ghost use Rattle.std.specs.List.{AllByRecursion as All};
+ghost use Rattle.std.specs.List.{AllByRecursion};
 ghost use Rattle.ternary.specs.declared.refusal.Refusal.TheVariants.{BadAutomaton};
 ghost use Rattle.automaton.specs.Limits.{handed, Within};
 
@@ -42,7 +42,7 @@ fn within(automaton: Automaton<'_>) -> bool
 
 // Whether all numbers are below the number of states.
 fn all_below(numbers: &[StateNo], states: u16) -> bool
-    ensures { Decides result (All (λ s. s.0 < states) numbers.now) }
+    ensures { Decides result (AllByRecursion (λ s. s.0 < states) numbers.now) }
 {
     for number in numbers {
         if number.0 >= states {

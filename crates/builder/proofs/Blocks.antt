@@ -2,10 +2,10 @@
 use Rattle.std.proofs.Common.{◌≡◌, ℕ, zero, suc, ◌+◌, ◌<◌, ◌≤◌, Bool, true, false, cond, ◌&&◌, eqb, List, [], ◌∷◌, ◌++◌, map, length, filter, sym, refl, ap, ◌∙◌, subst, ap₂, inl, inr, not-suc-le-zero, add-one, arith, length-append}
 use lib.Bits.{bit_and}
 use lib.ListN.{length-map}
-use Rattle.std.specs.List.{AllByRecursion as All}
+use Rattle.std.specs.List.{AllByRecursion}
 use Rattle.std.proofs.lemmas.List.Elements.{filter-append}
 use Rattle.std.proofs.ByRecursion.{All-append}
-use Rattle.std.proofs.lemmas.List.{append_nil}
+use Rattle.std.proofs.lemmas.List.{append-nil}
 use Rattle.std.proofs.lemmas.Bool.{eq-eqb, ne_eqb, cases_eq}
 use Rattle.ternary.specs.declared.entry.Entry.{Entry}
 use Rattle.ternary.specs.declared.words.StateNo.{StateNo}
@@ -99,7 +99,7 @@ module _ (a : Dfa) (f : Forest) (shadows : Shadows f) (s : ℕ) (hs : s < f.stat
           (subst (λ (m : ℕ). filter (has_shadow f s) (cond (eqb (f.depth m) d) (block a f words m) []) ≡ block a f words s) (sym is) (turn_own d e))
       | inr ne ↦
           level_kept d n (block a f words s) [] (level_own d n (omega arith) (omega arith) e) (turn_other d n (omega arith) ne)
-          ∙ append_nil (block a f words s)
+          ∙ append-nil (block a f words s)
     ]
 
     -- the levels below the state keep nothing, and those from its own on keep its block
@@ -118,7 +118,7 @@ module _ (a : Dfa) (f : Forest) (shadows : Shadows f) (s : ℕ) (hs : s < f.stat
         ∙ (elim (cases_eq (f.depth s) d) [
           | inl e ↦
               ap₂ (λ (us vs : List Entry). us ++ vs) (level_own d f.states (omega arith) hs e) (levels_none d (omega arith))
-              ∙ append_nil (block a f words s)
+              ∙ append-nil (block a f words s)
           | inr ne ↦
               ap₂ (λ (us vs : List Entry). us ++ vs)
               (level_none d f.states (omega arith) (λ t ht e k. ne (ap (λ (n : ℕ). f.depth n) (sym e) ∙ k)))
@@ -172,7 +172,7 @@ module _ (a : Dfa) (f : Forest) (words : ℕ → List ByteWord) where
   level_with d s e = ap (level a f words d) (add-one s) ∙ ap (λ (b : Bool). level a f words d s ++ cond b (block a f words s) []) (eq-eqb (f.depth s) d e)
 
   pub level_without : (d s : ℕ) → (f.depth s ≡ d → ⊥) → level a f words d (s + 1) ≡ level a f words d s
-  level_without d s ne = ap (level a f words d) (add-one s) ∙ (ap (λ (b : Bool). level a f words d s ++ cond b (block a f words s) []) (ne_eqb (f.depth s) d ne) ∙ append_nil (level a f words d s))
+  level_without d s ne = ap (level a f words d) (add-one s) ∙ (ap (λ (b : Bool). level a f words d s ++ cond b (block a f words s) []) (ne_eqb (f.depth s) d ne) ∙ append-nil (level a f words d s))
 
 -- the levels below d + 1: that of d, and those below it
 pub levels_next : (a : Dfa) (f : Forest) (words : ℕ → List ByteWord) (d k n : ℕ) → d ≡ suc k → f.states ≡ n → levels a f words d ≡ level a f words k n ++ levels a f words k
@@ -180,18 +180,18 @@ levels_next a f words d k n e states = ap (levels a f words) e ∙ ap (λ (m : �
 
 -- ---- what holds of each entry of a table
 
-module _ (P : Entry → Type 0) (a : Dfa) (f : Forest) (words : ℕ → List ByteWord) (each : (s : ℕ) → s < f.states → All P (block a f words s)) where
-  all_turn : (b : Bool) (s : ℕ) → s < f.states → All P (cond b (block a f words s) [])
+module _ (P : Entry → Type 0) (a : Dfa) (f : Forest) (words : ℕ → List ByteWord) (each : (s : ℕ) → s < f.states → AllByRecursion P (block a f words s)) where
+  all_turn : (b : Bool) (s : ℕ) → s < f.states → AllByRecursion P (cond b (block a f words s) [])
   all_turn true s h = each s h
   all_turn false s h = tt
 
-  all_level : (d n : ℕ) → n ≤ f.states → All P (level a f words d n)
+  all_level : (d n : ℕ) → n ≤ f.states → AllByRecursion P (level a f words d n)
   all_level d zero h = tt
   all_level d (suc n) h = All-append P (level a f words d n) _ (all_level d n (omega arith)) (all_turn (eqb (f.depth n) d) n (omega arith))
 
-  all_levels : (d : ℕ) → All P (levels a f words d)
+  all_levels : (d : ℕ) → AllByRecursion P (levels a f words d)
   all_levels zero = tt
   all_levels (suc d) = All-append P (level a f words d f.states) _ (all_level d f.states (omega arith)) (all_levels d)
 
-  pub all_table : All P (table a f words)
+  pub all_table : AllByRecursion P (table a f words)
   all_table = all_levels (height f f.states)

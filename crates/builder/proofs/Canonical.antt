@@ -1,7 +1,7 @@
 -- The lists that the builder chooses: one for each state, by its row and its deferrable bytes. Assumes nothing.
 use Rattle.std.proofs.Common.{◌≡◌, ℕ, ◌+◌, ◌*◌, ◌<◌, ◌≤◌, map, length, sym, refl, ap, subst, inl, inr, arith}
 use lib.ListN.{length-map}
-use Rattle.std.specs.List.{range_with_len, AllByRecursion as All}
+use Rattle.std.specs.List.{range_with_len, AllByRecursion}
 use Rattle.std.proofs.ByRecursion.{All-get_or}
 use Rattle.std.proofs.lemmas.List.{get_or_past}
 use Rattle.std.proofs.lemmas.Bool.{cases_lt}
@@ -29,7 +29,7 @@ next_below a within s byte = elim (cases_lt (256 * s + byte) (length a.successor
   | inr past ↦ subst (λ (t : StateNo). t.0 < a.states) (sym (get_or_past a.successors (256 * s + byte) (record { 0 = 0 }) past)) within.some
 ]
 
-pub lists_below : (a : Handed) → Within a → (s : ℕ) → All (λ w. w.next.0 < a.states) (lists_of (dfa a) s)
+pub lists_below : (a : Handed) → Within a → (s : ℕ) → AllByRecursion (λ w. w.next.0 < a.states) (lists_of (dfa a) s)
 lists_below a within s = chosen_next (λ (n : ℕ). n < a.states) within.some ((dfa a).next s) (deferrable (dfa a) s) (next_below a within s)
 
 -- shortest lists make a table as short as any lists that meet the byte rule

@@ -1,14 +1,14 @@
 -- Prefix words as values and masks over the byte: the byte rule of a prefix list is that of its words. Assumes nothing.
 use Rattle.std.proofs.Common.{◌≡◌, ℕ, ◌<◌, Bool, true, false, cond, T, eqb, List, [], ◌∷◌, map, Some, None, Option, sym, refl, ap, ◌∙◌, subst}
 use lib.Bits.{bit_and}
-use Rattle.std.specs.List.{AllByRecursion as All}
+use Rattle.std.specs.List.{AllByRecursion}
 use Rattle.std.specs.Option.{option_map}
 use Rattle.std.proofs.lemmas.Bool.{eqb-true}
 use Rattle.ternary.specs.declared.words.StateNo.{StateNo}
 use Rattle.automaton.specs.Runs.{Dfa}
 use Rattle.prefix.specs.declared.word.PrefixWord.{PrefixWord}
 use Rattle.prefix.specs.Masks.{byte_mask, byte_value}
-use Rattle.prefix.specs.Words.{Formed, matches, first, Served, ByteRule}
+use Rattle.prefix.specs.Words.{Formed, matches, first, Served}
 use Rattle.prefix.proofs.Masking.{clear, compares}
 use Rattle.forest.specs.Deferment.{forest_of}
 use Rattle.forest.specs.Table as forest
@@ -21,7 +21,7 @@ same_match w byte f h =
     ap (λ (v : ℕ). eqb (bit_and byte (byte_mask w)) v) (clear w.bits w.value) ∙ compares w.bits w.value byte f.0 f.1 h
 
 -- so the first word that matches is the same
-same_first : (ws : List (PrefixWord StateNo)) (byte : ℕ) → All Formed ws → byte < 256 → forest.first_word (map byte_word ws) byte ≡ option_map (λ s. s.0) (first ws byte)
+same_first : (ws : List (PrefixWord StateNo)) (byte : ℕ) → AllByRecursion Formed ws → byte < 256 → forest.first_word (map byte_word ws) byte ≡ option_map (λ s. s.0) (first ws byte)
 same_first [] byte f h = refl
 same_first (w ∷ ws) byte f h =
     ap (λ (b : Bool). cond b (Some w.next.0) (forest.first_word (map byte_word ws) byte)) (same_match w byte f.0 h)

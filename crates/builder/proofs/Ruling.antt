@@ -1,6 +1,6 @@
 -- The image over the chosen lists keeps the rules of images, and carries its automaton. Assumes nothing.
 use Rattle.std.proofs.Common.{◌≡◌, ℕ, ◌-◌, ◌^◌, ◌<◌, ◌≤◌, List, [], ◌∷◌, map, length, Some, None, filter, sym, refl, ap, ◌∙◌, subst, arith, pow_pos}
-use Rattle.std.specs.List.{range_with_len, AllByRecursion as All}
+use Rattle.std.specs.List.{range_with_len, AllByRecursion}
 use Rattle.std.proofs.lemmas.List.FromFn.{length-map-range_with_len, get_or-map-range_with_len}
 use Rattle.std.proofs.ByRecursion.{All-from_get_or, All-map}
 use Rattle.ternary.specs.declared.words.StateCode.{StateCode}
@@ -43,11 +43,11 @@ entry_kept a s w hs hn =
       code_small = subst (λ (n : ℕ). n < 2 ^ f.width) (sym (shadows.met s s hs hs here)) (shadows.below s hs);
       code-clear = and_again (code f s) (mask f s);
       mask_small = omega arith;
-      byte_clear_lem = and_again (byte_word w).value (byte_word w).mask;
+      byte_clear = and_again (byte_word w).value (byte_word w).mask;
       next_small = shadows.below w.next.0 hn;
     }
 
-block_kept : (a : Dfa) (s : ℕ) (ws : List (PrefixWord StateNo)) → s < (forest_of a).states → All (λ w. w.next.0 < (forest_of a).states) ws → All (λ e. Kept (2 ^ (forest_of a).width) (raw_of e)) (map (entry a (forest_of a) s) (map byte_word ws))
+block_kept : (a : Dfa) (s : ℕ) (ws : List (PrefixWord StateNo)) → s < (forest_of a).states → AllByRecursion (λ w. w.next.0 < (forest_of a).states) ws → AllByRecursion (λ e. Kept (2 ^ (forest_of a).width) (raw_of e)) (map (entry a (forest_of a) s) (map byte_word ws))
 block_kept a s [] hs p = tt
 block_kept a s (w ∷ ws) hs p = (entry_kept a s w hs p.0, block_kept a s ws hs p.1)
 
@@ -56,7 +56,7 @@ code_at_lem : (a : Dfa) (lists : Lists) (s : ℕ) → s < a.states → table.cod
 code_at_lem a lists s h = get_or-map-range_with_len (code_of a) 0 a.states s s (record { 0 = 0 }) h (omega arith)
 
 -- every code fits the width
-codes_below : (a : Dfa) → All (λ c. c.0 < 2 ^ (forest_of a).width) (map (code_of a) (range_with_len 0 a.states))
+codes_below : (a : Dfa) → AllByRecursion (λ c. c.0 < 2 ^ (forest_of a).width) (map (code_of a) (range_with_len 0 a.states))
 codes_below a =
     All-from_get_or (λ (c : StateCode). c.0 < 2 ^ (forest_of a).width) (map (code_of a) (range_with_len 0 a.states)) (record { 0 = 0 })
     (λ s h.
@@ -80,7 +80,7 @@ module _ (a : Handed) (within : Within a) where
         code = codes_below d;
         raw = All-map (Kept (2 ^ (forest_of d).width)) raw_of (table_over d (lists_of d))
             (all_table (λ e. Kept (2 ^ (forest_of d).width) (raw_of e)) d (forest_of d) (λ s. map byte_word (lists_of d s))
-            (λ s h. block_kept d s (lists_of d s) h (subst (λ (n : ℕ). All (λ w. w.next.0 < n) (lists_of d s)) (sym states) (lists_below a within s))));
+            (λ s h. block_kept d s (lists_of d s) h (subst (λ (n : ℕ). AllByRecursion (λ w. w.next.0 < n) (lists_of d s)) (sym states) (lists_below a within s))));
       })
 
   -- its entries carry the automaton

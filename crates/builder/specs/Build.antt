@@ -1,6 +1,6 @@
 -- What building answers and leaves. Assumes nothing.
 use Rattle.std.specs.Prelude.{◌≡◌, ℕ, ◌+◌, ◌*◌, ◌<◌, ◌≤◌, Bool, ◌&&◌, List, [], map, length, Ok, Err, filter, Result, ◌==◌, ◌≢◌}
-use Rattle.std.specs.List.{AllByRecursion as All}
+use Rattle.std.specs.List.{AllByRecursion}
 use Rattle.ternary.specs.declared.entry.Entry.{Entry}
 use Rattle.ternary.specs.declared.refusal.Refusal.{Refusal}
 use Rattle.ternary.specs.declared.refusal.Refusal.TheVariants.{OutputTooShort}
@@ -70,7 +70,7 @@ has_shadow f s e = e.code_value == code f s && e.code_mask == mask f s
 -- the entries with the shadow of s are a prefix list of s, and it is a shortest one
 pub record ShortestIn (a : Dfa) (entries : List Entry) (s : ℕ) : Type 0 where
   pub list : List (PrefixWord StateNo)
-  pub formed : All Formed list
+  pub formed : AllByRecursion Formed list
   pub shortest : Shortest list (row a s) (deferrable a s)
   pub behind : filter (has_shadow (forest_of a) s) entries ≡ map (entry_for a s) list
 

@@ -1,6 +1,6 @@
 -- A prefix list for each state of an automaton, and the table and the image over these lists. Assumes nothing.
 use Rattle.std.specs.Prelude.{ℕ, ◌<◌, Bool, false, List, map, Some, None, Option, ◌==◌}
-use Rattle.std.specs.List.{range_with_len, AllByRecursion as All}
+use Rattle.std.specs.List.{range_with_len, AllByRecursion}
 use Rattle.ternary.specs.declared.words.StateNo.{StateNo}
 use Rattle.ternary.specs.declared.words.StateCode.{StateCode}
 use Rattle.ternary.specs.declared.entry.Entry.{Entry}
@@ -38,7 +38,7 @@ MeetingLists a lists = (s : ℕ) → s < a.states → ByteRule (row a s) (deferr
 
 -- the list of each state is a prefix list that meets the byte rule and has as few words as any list that does
 abbrev pub ShortestLists : Dfa → Lists → Type 0
-ShortestLists a lists = (s : ℕ) → s < a.states → All Formed (lists s) × Shortest (lists s) (row a s) (deferrable a s)
+ShortestLists a lists = (s : ℕ) → s < a.states → AllByRecursion Formed (lists s) × Shortest (lists s) (row a s) (deferrable a s)
 
 -- a prefix word as a value and a mask over the byte
 abbrev pub byte_word : PrefixWord StateNo → ByteWord

@@ -1,6 +1,6 @@
 // Gathering the entries of a table: deeper states first, and states of equal depth by lower number.
 ghost use Rattle.std.specs.Prelude.{◌<◌, map};
-ghost use Rattle.std.specs.List.{AllByRecursion as All};
+ghost use Rattle.std.specs.List.{AllByRecursion};
 ghost use Rattle.automaton.specs.Limits.{handed, Within, dfa};
 ghost use Rattle.forest.specs.Plan.{PlanOf};
 ghost use Rattle.builder.specs.Gathering.{Gathers, lists_of, level_over};
@@ -25,7 +25,7 @@ fn gather_words(
 ) -> Result<(), Refusal>
     requires within { Within (handed automaton) }
     requires planned { PlanOf (dfa (handed automaton)) plan.now }
-    requires known { (state.0 < automaton.states) × All (λ w. w.next.0 < automaton.states) words.now }
+    requires known { (state.0 < automaton.states) × AllByRecursion (λ w. w.next.0 < automaton.states) words.now }
     ensures { Gathers gathered.old gathered.new (map (entry_for (dfa (handed automaton.entry)) state.0) words.now) result }
 {
     for word in words {

@@ -1,3 +1,5 @@
+#![tactic(auto)]
+
 // The table image of an automaton.
 pub mod build;
 mod filling;

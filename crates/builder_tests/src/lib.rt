@@ -1,3 +1,5 @@
+#![tactic(auto)]
+
 // Images built for small and large automata, and the refusals of a build. Every expected value is worked out by hand.
 #[cfg(test)]
 mod tests {

@@ -1,6 +1,6 @@
 -- What the two cards of a tandem do, seen as what the whole does.
 use Rattle.std.proofs.Common.{◌≡◌, ℕ, true, false, ◌&&◌, List, [], ◌∷◌, ◌++◌, is_ok, Some, None, Ok, Err, Option, Result, sym, refl, ap, ◌∙◌, subst, arith, MatchResult}
-use Rattle.std.proofs.lemmas.List.{append_nil, append_assoc}
+use Rattle.std.proofs.lemmas.List.{append-nil, append_assoc}
 use Rattle.std.proofs.lemmas.Bool.{true≢false}
 use Rattle.ternary.specs.declared.entry.Entry.{Entry}
 use Rattle.ternary.specs.declared.refusal.Refusal.{Refusal}
@@ -36,7 +36,7 @@ pub into_first : (e : Entry) (es later fs : List Entry) (a left b : ℕ) → no_
     → Added e es a later left → Added e (in_a_row es fs) (free_of a b fs) (in_a_row later fs) (free_of left b fs)
 into_first e es later [] a left b none added = record {
   room = omega (arith, added.room);
-  last = append_nil later ∙ (added.last ∙ ap (λ (l : List Entry). l ++ e ∷ []) (sym (append_nil es)));
+  last = append-nil later ∙ (added.last ∙ ap (λ (l : List Entry). l ++ e ∷ []) (sym (append-nil es)));
   taken = omega (arith, added.taken);
 }
 into_first e es later (f ∷ fs) a left b none added = absurd (true≢false (sym none))

@@ -1,3 +1,5 @@
+#![tactic(auto)]
+
 pub mod list;
 pub mod rules;
 pub mod tandem;

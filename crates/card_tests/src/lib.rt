@@ -1,3 +1,5 @@
+#![tactic(auto)]
+
 // Walks and cards at their limits. Every expected value is worked out by hand.
 #[cfg(test)]
 mod tests {

@@ -1,3 +1,5 @@
+#![tactic(auto)]
+
 // Marks each "ab" of a text with the same three entries on cards of different makes.
 use card::list::ListCard;
 use card::rules::Card;

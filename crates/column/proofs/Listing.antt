@@ -100,18 +100,18 @@ module _ (f : ℕ → Entry) (code byte : ℕ) where
       (cases_eq a i)
 
 -- what a search finds is the first match
-module _ (ws : List ℕ) (ds : List Decision) (n code byte : ℕ) (Code_fits : code < 2 ^ 16) (byte_fits : byte < 2 ^ 8) where
+module _ (ws : List ℕ) (ds : List Decision) (n code byte : ℕ) (code_fits : code < 2 ^ 16) (byte_fits : byte < 2 ^ 8) where
   pub none_first : ((j : ℕ) → j < n → hit ws code byte j ≡ false) → first (entries_of ws ds n) code byte ≡ None
-  none_first h = first_none (entry_at ws ds) code byte 0 n (λ j l g. matches-hit ws ds code byte j Code_fits byte_fits ∙ h j (omega arith))
+  none_first h = first_none (entry_at ws ds) code byte 0 n (λ j l g. matches-hit ws ds code byte j code_fits byte_fits ∙ h j (omega arith))
 
   pub some_first : (i : ℕ) → i < n → hit ws code byte i ≡ true → ((j : ℕ) → j < i → hit ws code byte j ≡ false)
       → first (entries_of ws ds n) code byte ≡ Some (get_or ds i undecided)
   unfolding entry_at
   some_first i l e h =
-      let found = matches-hit ws ds code byte i Code_fits byte_fits ∙ e in
-      first_some (entry_at ws ds) code byte 0 n i (omega arith) (omega arith) found (λ j b g. matches-hit ws ds code byte j Code_fits byte_fits ∙ h j g)
+      let found = matches-hit ws ds code byte i code_fits byte_fits ∙ e in
+      first_some (entry_at ws ds) code byte 0 n i (omega arith) (omega arith) found (λ j b g. matches-hit ws ds code byte j code_fits byte_fits ∙ h j g)
       ∙ ap Some
-      (with_decision (field_value ws (first_word i) (i % 64) 16) (field_mask ws (first_word i) (i % 64) 16) (field_value ws (first_word i + 32) (i % 64) 8) (field_mask ws (first_word i + 32) (i % 64) 8) (get_or ds i undecided) code byte Code_fits found)
+      (with_decision (field_value ws (first_word i) (i % 64) 16) (field_mask ws (first_word i) (i % 64) 16) (field_value ws (first_word i + 32) (i % 64) 8) (field_mask ws (first_word i + 32) (i % 64) 8) (get_or ds i undecided) code byte code_fits found)
 
 -- lists made from two functions that agree on each index
 map_like : (f g : ℕ → Entry) (a n : ℕ) → ((j : ℕ) → a ≤ j → j < a + n → f j ≡ g j) → map f (range_with_len a n) ≡ map g (range_with_len a n)
@@ -142,12 +142,12 @@ module _ (ws after : List ℕ) (ds : List Decision) (n : ℕ) (e : Entry)
   entry_new : n < length ds → e.code_value < 2 ^ 16 → e.code_mask < 2 ^ 16 → e.byte_value < 2 ^ 8 → e.byte_mask < 2 ^ 8 → entry_at after (set ds n (decision e)) n ≡ e
   unfolding entry_at
   entry_new l h₀ h₁ h₂ h₃ =
-      let code_value_lem = value_marked after (first_word n) (n % 64) 16 e.code_value e.code_mask by_code h₀ in
-      let code-mask = mask-marked after (first_word n) (n % 64) 16 e.code_value e.code_mask by_code h₁ in
-      let byte_value_lem = value_marked after (first_word n + 32) (n % 64) 8 e.byte_value e.byte_mask by_byte h₂ in
+      let code_value = value_marked after (first_word n) (n % 64) 16 e.code_value e.code_mask by_code h₀ in
+      let code_mask = mask-marked after (first_word n) (n % 64) 16 e.code_value e.code_mask by_code h₁ in
+      let byte_value = value_marked after (first_word n + 32) (n % 64) 8 e.byte_value e.byte_mask by_byte h₂ in
       let byte_mask = mask-marked after (first_word n + 32) (n % 64) 8 e.byte_value e.byte_mask by_byte h₃ in
       let decided : get_or (set ds n (decision e)) n undecided ≡ decision e = get_or-set_same ds n (decision e) undecided l in
-      (λ j. entry_with (code_value_lem j) (code-mask j) (byte_value_lem j) (byte_mask j) (decided j)) ∙ with_own e
+      (λ j. entry_with (code_value j) (code_mask j) (byte_value j) (byte_mask j) (decided j)) ∙ with_own e
 
   -- the list has the entry at its end, and is else as it was
   pub appended : n < length ds → e.code_value < 2 ^ 16 → e.code_mask < 2 ^ 16 → e.byte_value < 2 ^ 8 → e.byte_mask < 2 ^ 8

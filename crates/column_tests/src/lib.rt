@@ -1,3 +1,5 @@
+#![tactic(auto)]
+
 // Column cards beside list cards: the same entries and questions, and the same answers. The lent words are all ones
 // at first. The expected answers are the list card's, whose own contract is the first match.
 #[cfg(test)]

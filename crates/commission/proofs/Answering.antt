@@ -1,10 +1,10 @@
 -- From a feed over lent buffers to a call's answer.
-use Rattle.std.proofs.Common.{◌≡◌, ℕ, List, map, length, take, Ok, sym, ap, ◌∙◌, subst}
+use Rattle.std.proofs.Common.{◌≡◌, ℕ, List, map, length, take, Ok, sym, subst}
 use Rattle.ternary.specs.declared.words.Mark.{Mark}
 use Rattle.ternary.specs.declared.words.Progress.{Progress}
-use Rattle.ternary.specs.Marks.{Marked, marked}
-use Rattle.scanner.specs.Book.{Told, Book, Feeds, fed}
-use Rattle.scanner.specs.Scanners.{Seen, fed_told, ByTheBook, KeepsOn}
+use Rattle.ternary.specs.Marks.{marked}
+use Rattle.scanner.specs.Book.{Feeds, fed}
+use Rattle.scanner.specs.Scanners.{Seen, fed_told, KeepsOn}
 
 -- a feed of the same piece, with as many slots, whose marks are kept
 pub fed_call : (piece slice : List ℕ) (slots : ℕ) (buffer after kept : List Mark) (p : Progress) (before later : Seen)

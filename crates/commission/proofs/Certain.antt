@@ -1,5 +1,5 @@
 -- The book says one thing to each list of calls.
-use Rattle.std.proofs.Common.{◌≡◌, ℕ, ◌<◌, ◌≤◌, List, [], ◌∷◌, ◌++◌, length, take, sym, refl, ap, ◌∙◌, subst, arith}
+use Rattle.std.proofs.Common.{◌≡◌, ℕ, List, ◌∷◌, ◌++◌, take, sym, refl, ap, ◌∙◌, subst, arith}
 use Rattle.automaton.specs.Limits.{Handed}
 use Rattle.automaton.specs.Runs.{Dfa, reach}
 use Rattle.table.proofs.OneVerdict.{not_refused, one_refusal}

@@ -1,12 +1,11 @@
 -- The laws over whole runs, from the book's turns.
-use Rattle.std.proofs.Common.{◌≡◌, ℕ, zero, suc, ◌+◌, ◌<◌, true, false, cond, eqb, List, [], ◌∷◌, ◌++◌, map, length, get_or, take, Some, None, vec_items, Vec, sym, refl, ap, ◌∙◌, subst, add-zero, add_assoc, zero-add, arith}
+use Rattle.std.proofs.Common.{◌≡◌, ℕ, zero, suc, ◌+◌, ◌<◌, true, false, cond, eqb, List, [], ◌∷◌, ◌++◌, length, get_or, take, Some, None, vec_items, Vec, sym, refl, ap, ◌∙◌, subst, add-zero, add_assoc, zero-add, arith}
 use Rattle.std.proofs.lemmas.List.{append_assoc, map-append}
 use Rattle.std.specs.declared.alloc.Global.{Global}
 use Rattle.ternary.specs.Marks.{Marked, mark}
 use Rattle.automaton.specs.Runs.{Dfa, reach, marks, raised}
 use Rattle.table.specs.Acceptance.{beyond, malformed, differs, wrong}
-use Rattle.scanner.specs.Book.{Told, declined, accepted, Book, blank, filled, unchecked, too_small, Loads, declines, enters, Feeds, takes, Restarts, drops}
-use Rattle.scanner.proofs.Simulation.{reach-++}
+use Rattle.scanner.specs.Book.{Told, declined, Book, blank, filled, unchecked, too_small, Loads, declines, enters, Feeds, takes, Restarts, drops}
 use Rattle.commission.specs.declared.words.Filing.{Filing}
 use Rattle.commission.specs.declared.words.Call.{Call}
 use Rattle.commission.specs.declared.words.Call.TheVariants.{Load, Feed, Restart}

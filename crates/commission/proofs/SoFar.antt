@@ -1,8 +1,8 @@
 -- What a run knows of the calls so far.
-use Rattle.std.proofs.Common.{◌≡◌, ℕ, ◌+◌, ◌<◌, ◌≤◌, Bool, true, false, List, [], ◌∷◌, ◌++◌, map, length, get_or, take, is_ok, Err, Result, sym, refl, ap, ◌∙◌, subst, arith}
-use Rattle.std.proofs.lemmas.List.{take_more, take_all, map_push, length_push, append_assoc, append_nil}
+use Rattle.std.proofs.Common.{◌≡◌, ℕ, ◌+◌, ◌<◌, Bool, true, List, [], ◌∷◌, ◌++◌, map, length, get_or, take, is_ok, Err, Result, sym, refl, ap, ◌∙◌, subst}
+use Rattle.std.proofs.lemmas.List.{take_more, map_push, length_push, append_assoc, append-nil}
 use Rattle.std.proofs.lemmas.Bool.{false≢true}
-use Rattle.scanner.specs.Book.{Book, blank, Told}
+use Rattle.scanner.specs.Book.{Book, blank}
 use Rattle.scanner.specs.Scanners.{Seen, Keeps, KeepsOn}
 use Rattle.commission.specs.declared.words.Call.{Call}
 use Rattle.commission.specs.declared.words.Answer.{Answer}
@@ -22,7 +22,7 @@ pub record SoFar (capacity : ℕ) (calls : List Call) (i : ℕ) (before after : 
 
 -- no call yet
 pub so_far_none : (calls : List Call) (before : List Answer) (s : Seen) → Keeps s blank → SoFar s.capacity calls 0 before before s
-so_far_none calls before s keeps = record { answers = []; added = sym (append_nil before); count = refl; book = blank; turns = done; keeps = keeps; same = refl }
+so_far_none calls before s keeps = record { answers = []; added = sym (append-nil before); count = refl; book = blank; turns = done; keeps = keeps; same = refl }
 
 -- one call more
 pub so_far_more : (capacity : ℕ) (calls : List Call) (i : ℕ) (before after later : List Answer) (s t : Seen) (call : Call) (answer : Answer)

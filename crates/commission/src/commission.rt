@@ -24,7 +24,7 @@ pub fn commission<C: Card + Drop>(
     card: C,
     calls: &[Call],
 ) -> Report
-    ensures { Guarantee (handed automaton.entry) vendor.now work.old work.new out.old out.new (size card) calls.now result }
+    ensures { Guarantee (handed automaton.entry) vendor.now work.old work.new out.old out.new (C.size card) calls.now result }
 {
     let vendor = check(automaton, vendor);
     let built = build_and_check(automaton, work, out);

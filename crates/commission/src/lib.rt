@@ -1,3 +1,5 @@
+#![tactic(auto)]
+
 pub mod commission;
 pub mod run;
 pub mod words;

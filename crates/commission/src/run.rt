@@ -17,7 +17,7 @@ pub fn run<C: Card + Drop>(
     calls: &[Call],
     answers: &mut Vec<Answer>,
 ) -> Result<(), AllocError>
-    ensures { Ran (size card) calls.now answers.old.items answers.new.items (is_ok result) }
+    ensures { Ran (C.size card) calls.now answers.old.items answers.new.items (is_ok result) }
 {
     let mut scanner = Scanner::new(card);
     for call in calls {
@@ -33,8 +33,8 @@ fn answer_to<C: Card>(
     heap: Global,
     call: &Call,
 ) -> Result<Answer, AllocError>
-    ensures capacity { size scanner.new.card ≡ size scanner.old.card }
-    ensures keeps { IfOk result (λ a. KeepsOn (Turn (size scanner.old.card) call.now) (seen entries size scanner.old) (told a) (seen entries size scanner.new)) }
+    ensures capacity { C.size scanner.new.card ≡ C.size scanner.old.card }
+    ensures keeps { IfOk result (λ a. KeepsOn (Turn (C.size scanner.old.card) call.now) (seen C.entries C.size scanner.old) (told a) (seen C.entries C.size scanner.new)) }
 {
     match call {
         Call::Load(filing) => Ok(load(scanner, filing)),
@@ -45,8 +45,8 @@ fn answer_to<C: Card>(
 
 // A load of what is filed.
 fn load<C: Card>(scanner: &mut Scanner<C>, filing: &Filing) -> Answer
-    ensures capacity { size scanner.new.card ≡ size scanner.old.card }
-    ensures keeps { KeepsOn (Turn (size scanner.old.card) (Load filing.now)) (seen entries size scanner.old) (told result) (seen entries size scanner.new) }
+    ensures capacity { C.size scanner.new.card ≡ C.size scanner.old.card }
+    ensures keeps { KeepsOn (Turn (C.size scanner.old.card) (Load filing.now)) (seen C.entries C.size scanner.old) (told result) (seen C.entries C.size scanner.new) }
 {
     let automaton = Automaton {
         states: filing.states,
@@ -67,8 +67,8 @@ fn feed<C: Card>(
     piece: &Vec<u8>,
     slots: usize,
 ) -> Result<Answer, AllocError>
-    ensures capacity { size scanner.new.card ≡ size scanner.old.card }
-    ensures keeps { IfOk result (λ a. KeepsOn (Turn (size scanner.old.card) (Feed piece.now slots)) (seen entries size scanner.old) (told a) (seen entries size scanner.new)) }
+    ensures capacity { C.size scanner.new.card ≡ C.size scanner.old.card }
+    ensures keeps { IfOk result (λ a. KeepsOn (Turn (C.size scanner.old.card) (Feed piece.now slots)) (seen C.entries C.size scanner.old) (told a) (seen C.entries C.size scanner.new)) }
 {
     let mut marks = vec![in heap; Mark { place: 0, class: 0 }; slots]?;
     match scanner.feed(piece.as_slice(), marks.as_mut_slice()) {
@@ -82,8 +82,8 @@ fn feed<C: Card>(
 
 // A restart.
 fn restart<C: Card>(scanner: &mut Scanner<C>) -> Answer
-    ensures capacity { size scanner.new.card ≡ size scanner.old.card }
-    ensures keeps { KeepsOn (Turn (size scanner.old.card) Restart) (seen entries size scanner.old) (told result) (seen entries size scanner.new) }
+    ensures capacity { C.size scanner.new.card ≡ C.size scanner.old.card }
+    ensures keeps { KeepsOn (Turn (C.size scanner.old.card) Restart) (seen C.entries C.size scanner.old) (told result) (seen C.entries C.size scanner.new) }
 {
     match scanner.restart() {
         Ok(()) => Answer::Accepted,

@@ -1,3 +1,5 @@
+#![tactic(auto)]
+
 // Takes an automaton into service: `commissioner AUTOMATON IMAGE STREAM`, three files. It checks the image, builds one of
 // its own, and makes calls on a scanner over a list card: a restart before the load, the load, the stream piece by
 // piece, a restart, and the whole stream once more as one piece with one mark slot.

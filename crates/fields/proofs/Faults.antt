@@ -1,10 +1,10 @@
 -- The first fault of a list of items, found one item at a time.
-use Rattle.std.proofs.Common.{◌≡◌, ℕ, ◌+◌, ◌*◌, ◌<◌, ◌≤◌, Bool, true, false, cond, ◌&&◌, eqb, ltb, leb, List, [], ◌∷◌, ◌++◌, map, length, get_or, take, drop, is_some, Some, None, Option, sym, refl, ap, ◌∙◌, subst, arith}
-use Rattle.std.specs.List.{range_with_len, AllByRecursion as All}
+use Rattle.std.proofs.Common.{◌≡◌, ℕ, ◌+◌, ◌<◌, ◌≤◌, Bool, true, false, List, [], ◌∷◌, map, length, get_or, drop, is_some, Some, None, Option, sym, refl, ap, ◌∙◌, arith}
+use Rattle.std.specs.List.{range_with_len, AllByRecursion}
 use Rattle.std.proofs.lemmas.List.{at_drop_more, at_drop_all}
 use Rattle.std.proofs.lemmas.Bool.{true≢false, false≢true}
 use Rattle.std.proofs.lemmas.List.FromFn.{get_or-map-range_with_len, length-map-range_with_len}
-use Rattle.fields.specs.Fields.{check, or_else, first_of, each_fault}
+use Rattle.fields.specs.Fields.{check, or_else, each_fault}
 
 pub passed : (f next : Option ℕ) → is_some f ≡ false → or_else f next ≡ next
 passed None next h = refl
@@ -70,7 +70,7 @@ pass true at next h = refl
 pass false at next h = absurd (false≢true h)
 
 -- what holds of each item that has no fault
-pub each_pass : {X : Type 0} (P : X → Type 0) (f : ℕ → X → Option ℕ) (step : ℕ) → ((at : ℕ) (x : X) → is_some (f at x) ≡ false → P x) → (at : ℕ) (xs : List X) → is_some (each_fault f step at xs) ≡ false → All P xs
+pub each_pass : {X : Type 0} (P : X → Type 0) (f : ℕ → X → Option ℕ) (step : ℕ) → ((at : ℕ) (x : X) → is_some (f at x) ≡ false → P x) → (at : ℕ) (xs : List X) → is_some (each_fault f step at xs) ≡ false → AllByRecursion P xs
 each_pass P f step one at [] h = tt
 each_pass P f step one at (x ∷ xs) h =
     let parts = both_pass (f at x) (each_fault f step (at + step) xs) h in

@@ -1,3 +1,5 @@
+#![tactic(auto)]
+
 // Automaton files written out byte by byte, with what the rules say of them worked out by hand.
 
 #[cfg(test)]

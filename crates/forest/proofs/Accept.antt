@@ -1,15 +1,14 @@
 -- The table gives every state its right successor. Assumes nothing.
-use Rattle.std.proofs.Common.{◌≡◌, ℕ, zero, suc, ◌<◌, Bool, true, false, cond, ◌&&◌, eqb, ◌⊎◌, List, [], ◌∷◌, ◌++◌, map, Some, None, Option, sym, refl, ap, ◌∙◌, subst, ap₂, inl, inr, not-suc-le-zero, arith}
+use Rattle.std.proofs.Common.{◌≡◌, ℕ, zero, suc, ◌<◌, Bool, true, false, cond, ◌&&◌, eqb, ◌⊎◌, List, [], ◌∷◌, map, Some, None, Option, sym, refl, ap, ◌∙◌, subst, ap₂, inl, inr, not-suc-le-zero, arith}
 use lib.Bits.{bit_and}
 use Rattle.std.proofs.lemmas.Bool.{eq-eqb, ne_eqb, cases_eq}
 use Rattle.ternary.specs.declared.words.StateCode.{StateCode}
-use Rattle.ternary.specs.declared.entry.Entry.{Entry}
-use Rattle.ternary.specs.Match.{matches, pick, first}
+use Rattle.ternary.specs.Match.{pick, first}
 use Rattle.ternary.proofs.FirstMatch.{or_else, first-++}
 use Rattle.forest.specs.Words.{ByteWord}
 use Rattle.automaton.specs.Runs.{Dfa}
 use Rattle.forest.specs.Forest.{Forest, WellFormed, code, mask, Above, here, up}
-use Rattle.forest.specs.Table.{first_word, Deferrable, Gives, ByteRule, decision, entry, block, level, levels, height, table}
+use Rattle.forest.specs.Table.{first_word, Deferrable, Gives, ByteRule, decision, entry, block, level, levels, height}
 use Rattle.forest.specs.Laws.{TableStands, ShadowsStand}
 use Rattle.forest.proofs.Shadow.{cases_parent, child_rule, match_above, above_match, codes_differ, code_fits, above_depth, above_same_depth, above_states}
 

@@ -1,9 +1,8 @@
 -- Parents and depths that agree below n give the same forest there. Assumes nothing.
 use Rattle.std.proofs.Common.{◌≡◌, ℕ, zero, suc, ◌+◌, ◌-◌, ◌*◌, ◌^◌, ◌<◌, ◌≤◌, cond, List, Some, None, Option, sym, refl, ap, ◌∙◌, subst, ap₂, inl, inr, arith}
-use Rattle.automaton.specs.Runs.{Dfa}
 use Rattle.forest.specs.Forest.{code, mask}
 use Rattle.forest.specs.Codes.{Parents, same, deferring, bits_for, child_bits, root_bits, number_of, prefix_of, len_of, span_of, width_of, parents_in, depths_in, numbered, Rooted}
-use Rattle.forest.specs.Deferment.{trees_of, depth_of, parent_of, joined_forest}
+use Rattle.forest.specs.Deferment.{trees_of, depth_of, parent_of}
 use Rattle.forest.specs.Laws.{Holding, Same, ArraysStand}
 use Rattle.forest.proofs.Counts.{count_same_below, most_same_below}
 use Rattle.forest.proofs.Shadow.{cases_parent}

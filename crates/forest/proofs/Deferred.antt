@@ -1,6 +1,6 @@
 -- The forest of an automaton is well formed, and keeps the rules of deferment. Assumes nothing.
-use Rattle.std.proofs.Common.{◌≡◌, ℕ, zero, suc, ◌+◌, ◌^◌, ◌<◌, ◌≤◌, Bool, true, false, cond, not, ◌&&◌, ◌||◌, eqb, ltb, leb, ◌⊎◌, List, [], ◌∷◌, Some, None, Option, sym, refl, ap, ◌∙◌, subst, ap₂, inl, inr, not-suc-le-zero, arith}
-use Rattle.std.specs.List.{ContainsAt as Has, AllByRecursion as All}
+use Rattle.std.proofs.Common.{◌≡◌, ℕ, zero, suc, ◌+◌, ◌^◌, ◌<◌, ◌≤◌, Bool, true, false, cond, ◌&&◌, ◌||◌, eqb, ltb, leb, ◌⊎◌, List, [], ◌∷◌, Some, None, Option, sym, refl, ap, ◌∙◌, subst, ap₂, inl, inr, not-suc-le-zero, arith}
+use Rattle.std.specs.List.{ContainsAt as Has, AllByRecursion}
 use Rattle.std.proofs.ByRecursion.{All-append, has_append_left, has_append_right, has_push}
 use Rattle.std.proofs.lemmas.Bool.{cases_eq, cases_Bool, true≢false, not-true, not_from_false, eqb-true, eq-eqb, ne_eqb, lt-ltb, leb-true, and_parts, and_from, or_cases, cond-true, cond-false}
 use Rattle.std.proofs.lemmas.Bool.Decides.{nat_tests}
@@ -22,7 +22,7 @@ use Rattle.forest.proofs.Joins.{Connected, connected_join, tree_moved, tree_kept
 abbrev Pair : Dfa → ℕ × ℕ → Type 0
 Pair a p = (p.0 < a.states) × (p.1 < a.states) × (32 ≤ shared a p.0 p.1)
 
-pairs_of_lem : (a : Dfa) (c s n : ℕ) → 32 ≤ c → s < a.states → n ≤ a.states → All (Pair a) (pairs_of a c s n)
+pairs_of_lem : (a : Dfa) (c s n : ℕ) → 32 ≤ c → s < a.states → n ≤ a.states → AllByRecursion (Pair a) (pairs_of a c s n)
 pairs_of_lem a c s zero hc hs hn = tt
 pairs_of_lem a c s (suc t) hc hs hn =
     All-append (Pair a) (pairs_of a c s t) (cond (ltb s t && eqb (shared a s t) c) ((s, t) ∷ []) [])
@@ -30,16 +30,16 @@ pairs_of_lem a c s (suc t) hc hs hn =
     (elim (cases_Bool (ltb s t && eqb (shared a s t) c)) [
       | inl e ↦
           let k = eqb-true (shared a s t) c (and_parts (ltb s t) (eqb (shared a s t) c) e).1 in
-          subst (λ (b : Bool). All (Pair a) (cond b ((s, t) ∷ []) [])) (sym e) ((hs, omega arith, omega (arith, k)), tt)
-      | inr e ↦ subst (λ (b : Bool). All (Pair a) (cond b ((s, t) ∷ []) [])) (sym e) tt
+          subst (λ (b : Bool). AllByRecursion (Pair a) (cond b ((s, t) ∷ []) [])) (sym e) ((hs, omega arith, omega (arith, k)), tt)
+      | inr e ↦ subst (λ (b : Bool). AllByRecursion (Pair a) (cond b ((s, t) ∷ []) [])) (sym e) tt
     ])
 
-pairs_below_lem : (a : Dfa) (c n : ℕ) → 32 ≤ c → n ≤ a.states → All (Pair a) (pairs_below a c n)
+pairs_below_lem : (a : Dfa) (c n : ℕ) → 32 ≤ c → n ≤ a.states → AllByRecursion (Pair a) (pairs_below a c n)
 pairs_below_lem a c zero hc hn = tt
 pairs_below_lem a c (suc s) hc hn =
     All-append (Pair a) (pairs_below a c s) (pairs_of a c s a.states) (pairs_below_lem a c s hc (omega arith)) (pairs_of_lem a c s a.states hc (omega arith) (omega arith))
 
-pairs_ranked : (a : Dfa) (m : ℕ) → All (Pair a) (ranked a m)
+pairs_ranked : (a : Dfa) (m : ℕ) → AllByRecursion (Pair a) (ranked a m)
 pairs_ranked a zero = tt
 pairs_ranked a (suc m) =
     All-append (Pair a) (pairs_below a (32 + m) a.states) (ranked a m) (pairs_below_lem a (32 + m) a.states (omega arith) (omega arith)) (pairs_ranked a m)
@@ -125,7 +125,7 @@ kept_join a f p hp ne k =
       either_way = λ u v. ap₂ (λ (x y : Bool). x || y) (k.either_way u v) (pair_swap p u v);
     }
 
-kept_kruskal : (a : Dfa) (ps : List (ℕ × ℕ)) (f : Trees) → All (Pair a) ps → Kept a f → Kept a (kruskal f ps)
+kept_kruskal : (a : Dfa) (ps : List (ℕ × ℕ)) (f : Trees) → AllByRecursion (Pair a) ps → Kept a f → Kept a (kruskal f ps)
 kept_kruskal a [] f h k = k
 kept_kruskal a (p ∷ ps) f h k =
     kept_kruskal a ps (cond (eqb (f.tree p.0) (f.tree p.1)) f (join f p.0 p.1)) h.1

@@ -1,14 +1,13 @@
 -- Arrays that were found and coded hold the forest of an automaton. Assumes nothing.
-use Rattle.std.proofs.Common.{◌≡◌, ℕ, ◌^◌, ◌<◌, ◌≤◌, Bool, true, false, cond, ltb, leb, List, ◌++◌, length, get_or, Some, None, Option, sym, refl, ap, ◌∙◌, subst, arith}
+use Rattle.std.proofs.Common.{◌≡◌, ℕ, ◌^◌, ◌<◌, ◌≤◌, Bool, true, false, cond, ltb, leb, List, ◌++◌, length, get_or, Some, None, Option, sym, refl, ap, ◌∙◌, arith}
 use Rattle.std.proofs.lemmas.Bool.{cond-true, cond-false, leb-true, le-leb, lt-ltb, le-ltb, false≢true}
 use Rattle.std.proofs.lemmas.List.{get_or_append_left}
 use Rattle.automaton.specs.Runs.{Dfa}
 use Rattle.forest.specs.Arrays.{fitting}
-use Rattle.forest.specs.Codes.{forest_in, Described}
+use Rattle.forest.specs.Codes.{forest_in}
 use Rattle.forest.specs.Deferment.{joined_forest, loose_forest, forest_of}
 use Rattle.forest.specs.Forest.{Forest, code, mask}
 use Rattle.forest.specs.Laws.{Found, Loose, Same}
-use Rattle.ternary.specs.declared.words.StateCode.{StateCode}
 use Rattle.forest.specs.declared.plan.Placement.{Placement}
 use Rattle.forest.specs.declared.plan.Plan.{Plan}
 use Rattle.forest.specs.Plan.{Coded, Planned, PlanOf, state_named, placement_of, placement_in}

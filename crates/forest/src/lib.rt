@@ -1,3 +1,5 @@
+#![tactic(auto)]
+
 mod codes;
 mod deferment;
 mod joining;

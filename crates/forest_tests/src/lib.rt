@@ -1,3 +1,5 @@
+#![tactic(auto)]
+
 // Plans of automata whose trees, codes and shadows are worked out by hand.
 
 #[cfg(test)]

@@ -1,6 +1,6 @@
 -- The parts of an image with no fault keep the rules and pack to the same bytes.
 use Rattle.std.proofs.Common.{◌≡◌, ℕ, ◌+◌, ◌-◌, ◌*◌, ◌^◌, ◌<◌, ◌≤◌, false, eqb, leb, List, [], ◌∷◌, ◌++◌, map, length, get_or, take, drop, is_some, None, Option, sym, ap, ◌∙◌, add-zero, arith, length-drop, take-append-drop, length-take, get_or-drop, get_or-take}
-use Rattle.std.specs.List.{range_with_len, flat_map, AllByRecursion as All}
+use Rattle.std.specs.List.{range_with_len, flat_map, AllByRecursion}
 use Rattle.std.proofs.lemmas.List.FromFn.{length-map-range_with_len, fill_by_all}
 use Rattle.std.proofs.lemmas.List.{drop-drop, take_all, length-map}
 use Rattle.std.proofs.lemmas.Bool.{leb-true, eqb-true}
@@ -85,7 +85,7 @@ module _ (bs : List ℕ) (small : (k : ℕ) → get_or bs k 0 < 256) where
       ∙ sym (bytes_from bs 12 0 h.room)
 
   -- the header, the codes and the entries, one after another
-  encode-decode : Sound bs → All (Kept (2 ^ get_or bs 5 0)) (raws_in bs) → encode (decode bs) ≡ bs
+  encode-decode : Sound bs → AllByRecursion (Kept (2 ^ get_or bs 5 0)) (raws_in bs) → encode (decode bs) ≡ bs
   encode-decode h all =
       let n : ℕ = word bs 6 in
       let m : ℕ = word bs 10 in
@@ -102,7 +102,7 @@ module _ (bs : List ℕ) (small : (k : ℕ) → get_or bs k 0 < 256) where
       (λ i. head i ++ (codes i ++ tail i))
       ∙ (ap (λ (l : List ℕ). take 12 bs ++ l) (take-append-drop (2 * n) (drop 12 bs)) ∙ take-append-drop 12 bs)
 
-  no_fault : Sound bs → All (Kept (2 ^ get_or bs 5 0)) (raws_in bs) → parts_fault (decode bs) ≡ None
+  no_fault : Sound bs → AllByRecursion (Kept (2 ^ get_or bs 5 0)) (raws_in bs) → parts_fault (decode bs) ≡ None
   no_fault h all =
       let again = raws_again (2 ^ get_or bs 5 0) (raws_in bs) all in
       (λ i. or_else (header_fault (get_or bs 5 0) (states i) (word bs 8) (entries i)) (items_fault (get_or bs 5 0) (codes_in bs) (again i)))

@@ -1,5 +1,5 @@
 -- The image of parts that keep the rules has no fault and says those parts.
-use Rattle.std.proofs.Common.{◌≡◌, ℕ, ◌+◌, ◌-◌, ◌*◌, ◌/◌, ◌%◌, ◌^◌, ◌<◌, ◌≤◌, eqb, leb, List, [], ◌++◌, map, length, get_or, is_some, None, Option, sym, refl, ap, ◌∙◌, append_assoc, append_nil, arith, length-append, pow_mono}
+use Rattle.std.proofs.Common.{◌≡◌, ℕ, ◌+◌, ◌-◌, ◌*◌, ◌/◌, ◌%◌, ◌^◌, ◌<◌, ◌≤◌, eqb, leb, List, [], ◌++◌, map, length, get_or, is_some, None, Option, sym, refl, ap, ◌∙◌, append_assoc, append-nil, arith, length-append, pow_mono}
 use Rattle.std.specs.List.{range_with_len, flat_map}
 use Rattle.std.proofs.lemmas.List.FromFn.{fill_by_all}
 use Rattle.std.proofs.ByRecursion.{All-get_or}
@@ -41,7 +41,7 @@ module _ (p : Parts) (rules : Ruled p) where
       let codes : List ℕ = flat_map code_bytes p.codes in
       let bytes : List ℕ = flat_map raw_bytes raws in
       let split : encode p ≡ (head_of p ++ codes) ++ (bytes ++ []) =
-      ap (λ (l : List ℕ). head_of p ++ (codes ++ l)) (entry_bytes_lem p.entries ∙ sym (append_nil bytes)) ∙ sym (append_assoc (head_of p) codes (bytes ++ [])) in
+      ap (λ (l : List ℕ). head_of p ++ (codes ++ l)) (entry_bytes_lem p.entries ∙ sym (append-nil bytes)) ∙ sym (append_assoc (head_of p) codes (bytes ++ [])) in
       let long = length_joined code_bytes 2 (λ _. refl) p.codes in
       let read : (j there : ℕ) → j < 9 → there ≡ at + j → get_or (encode p) there 0 ≡ get_or (raw_bytes f) j 0 =
       λ j there lt is. ap (λ (l : List ℕ). get_or l there 0) split

@@ -1,7 +1,7 @@
 -- An entry and its fields: each makes the other where no value has a bit under a star.
 use Rattle.std.proofs.Common.{◌≡◌, ℕ, ◌+◌, ◌<◌, false, ◌&&◌, ltb, List, [], ◌∷◌, ◌++◌, map, length, get_or, is_some, None, sym, refl, ap, ◌∙◌}
 use lib.Bits.{bit_and}
-use Rattle.std.specs.List.{flat_map, AllByRecursion as All}
+use Rattle.std.specs.List.{flat_map, AllByRecursion}
 use Rattle.std.proofs.lemmas.List.{get_or-map}
 use Rattle.std.proofs.lemmas.Bool.{and_parts, eqb-true, ltb-true}
 use Rattle.ternary.specs.declared.entry.Entry.{Entry}
@@ -17,7 +17,7 @@ pub record Kept (limit : ℕ) (f : RawEntry) : Type 0 where
   pub code_small : f.code_value < limit
   pub code-clear : bit_and f.code_value f.code_mask ≡ f.code_value
   pub mask_small : f.code_mask < limit
-  pub byte_clear_lem : bit_and f.byte_value f.byte_mask ≡ f.byte_value
+  pub byte_clear : bit_and f.byte_value f.byte_mask ≡ f.byte_value
   pub next_small : f.next.0 < limit
 
 pub kept : (limit at : ℕ) (f : RawEntry) → is_some (raw_fault limit at f) ≡ false → Kept limit f
@@ -31,7 +31,7 @@ kept limit at f h =
       code_small = ltb-true f.code_value limit value.0;
       code-clear = eqb-true (bit_and f.code_value f.code_mask) f.code_value value.1;
       mask_small = ltb-true f.code_mask limit (check_pass _ _ b.0);
-      byte_clear_lem = eqb-true (bit_and f.byte_value f.byte_mask) f.byte_value (check_pass _ _ d.0);
+      byte_clear = eqb-true (bit_and f.byte_value f.byte_mask) f.byte_value (check_pass _ _ d.0);
       next_small = ltb-true f.next.0 limit (check_pass _ _ e.0);
     }
 
@@ -48,13 +48,13 @@ pub raw_again : (limit : ℕ) (f : RawEntry) → Kept limit f → raw_of (entry_
 raw_again limit f k = λ i. record {
   code_value = k.code-clear i;
   code_mask = f.code_mask;
-  byte_value = k.byte_clear_lem i;
+  byte_value = k.byte_clear i;
   byte_mask = f.byte_mask;
   next = f.next;
   class = f.class;
 }
 
-pub raws_again : (limit : ℕ) (fs : List RawEntry) → All (Kept limit) fs → map raw_of (map entry_from fs) ≡ fs
+pub raws_again : (limit : ℕ) (fs : List RawEntry) → AllByRecursion (Kept limit) fs → map raw_of (map entry_from fs) ≡ fs
 raws_again limit [] all = refl
 raws_again limit (f ∷ fs) all = λ i. raw_again limit f all.0 i ∷ raws_again limit fs all.1 i
 

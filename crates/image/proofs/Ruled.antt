@@ -1,7 +1,7 @@
 -- The rules that parts with no fault keep, as facts.
 use Rattle.std.proofs.Common.{◌≡◌, ℕ, ◌+◌, ◌*◌, ◌^◌, ◌<◌, ◌≤◌, Bool, ◌&&◌, ltb, leb, List, [], ◌∷◌, map, length, is_some, None, Option, refl, ap, ◌∙◌, ap₂}
 use lib.Bits.{bit_and}
-use Rattle.std.specs.List.{AllByRecursion as All}
+use Rattle.std.specs.List.{AllByRecursion}
 use Rattle.std.proofs.lemmas.Bool.{leb-true, ltb-true, le-leb, lt-ltb, eq-eqb, and_parts, and_from}
 use Rattle.fields.specs.Fields.{check, each_fault, or_else}
 use Rattle.fields.proofs.Faults.{both_pass, check_pass, each_pass, pass}
@@ -16,8 +16,8 @@ pub record Ruled (p : Parts) : Type 0 where
   pub states : length p.codes ≤ 512
   pub start : p.start.0 < length p.codes
   pub entries : length p.entries ≤ 4096
-  pub code : All (λ c. c.0 < 2 ^ p.width) p.codes
-  pub raw : All (Kept (2 ^ p.width)) (map raw_of p.entries)
+  pub code : AllByRecursion (λ c. c.0 < 2 ^ p.width) p.codes
+  pub raw : AllByRecursion (Kept (2 ^ p.width)) (map raw_of p.entries)
 
 pub ruled : (p : Parts) → parts_fault p ≡ None → Ruled p
 ruled p none =
@@ -42,7 +42,7 @@ ruled p none =
     }
 
 -- and back: parts that keep the rules have no fault
-each_none : {X : Type 0} (P : X → Type 0) (f : ℕ → X → Option ℕ) (step : ℕ) → ((at : ℕ) (x : X) → P x → f at x ≡ None) → (at : ℕ) (xs : List X) → All P xs → each_fault f step at xs ≡ None
+each_none : {X : Type 0} (P : X → Type 0) (f : ℕ → X → Option ℕ) (step : ℕ) → ((at : ℕ) (x : X) → P x → f at x ≡ None) → (at : ℕ) (xs : List X) → AllByRecursion P xs → each_fault f step at xs ≡ None
 each_none P f step one at [] all = refl
 each_none P f step one at (x ∷ xs) all = ap₂ or_else (one at x all.0) (each_none P f step one (at + step) xs all.1)
 
@@ -51,7 +51,7 @@ raw_none limit at f k =
     pass (ltb f.code_value limit && clear f.code_value f.code_mask) at _
     (and_from _ _ (lt-ltb f.code_value limit k.code_small) (eq-eqb (bit_and f.code_value f.code_mask) f.code_value k.code-clear))
     ∙ pass (ltb f.code_mask limit) (at + 2) _ (lt-ltb f.code_mask limit k.mask_small)
-    ∙ pass (clear f.byte_value f.byte_mask) (at + 4) _ (eq-eqb (bit_and f.byte_value f.byte_mask) f.byte_value k.byte_clear_lem)
+    ∙ pass (clear f.byte_value f.byte_mask) (at + 4) _ (eq-eqb (bit_and f.byte_value f.byte_mask) f.byte_value k.byte_clear)
     ∙ pass (ltb f.next.0 limit) (at + 6) None (lt-ltb f.next.0 limit k.next_small)
 
 pub unfaulted : (p : Parts) → Ruled p → parts_fault p ≡ None

@@ -1,3 +1,5 @@
+#![tactic(auto)]
+
 mod raw;
 pub mod reader;
 mod rules;

@@ -1,3 +1,5 @@
+#![tactic(auto)]
+
 // Images written out byte by byte, and what the reader and the writer say of them.
 #[cfg(test)]
 mod tests {

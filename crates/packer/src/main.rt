@@ -1,3 +1,5 @@
+#![tactic(auto)]
+
 // Packs the table of an automaton that marks "ab", prints its image, and prints what the image holds.
 use image::reader::{Image, unpack};
 use image::writer::pack;

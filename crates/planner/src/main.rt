@@ -1,3 +1,5 @@
+#![tactic(auto)]
+
 // Prints the plan of the automaton file on standard input: who defers to whom, and the codes and shadows.
 use printed::plans::file_text;
 use std::io;

@@ -1,6 +1,6 @@
 -- The list that is chosen for a row: it depends on the row's bytes alone, and it is a shortest one. Assumes nothing.
 use Rattle.std.proofs.Common.{◌≡◌, ℕ, zero, suc, ◌+◌, ◌*◌, ◌^◌, ◌<◌, ◌≤◌, Bool, eqb, map, sym, ap, ◌∙◌, ap₂, mul_assoc, add-mul, pow-suc, arith, lit≤}
-use Rattle.std.specs.List.{AllByRecursion as All}
+use Rattle.std.specs.List.{AllByRecursion}
 use Rattle.ternary.specs.declared.words.StateNo.{StateNo}
 use Rattle.prefix.specs.Words.{Formed, Shortest}
 use Rattle.prefix.specs.Tree.{Tree, leaf, node, emit}
@@ -25,7 +25,7 @@ module _ (row row' : ℕ → ℕ) (deferrable deferrable' : ℕ → Bool) (rows 
   chosen-same = ap (λ (t : Tree ℕ). map stated (placed 0 0 0 (emit eqb 0 t))) (same_tree 8 0 (lit≤ tt))
 
 -- its words compare 0 to 8 bits
-pub chosen_formed : (row : ℕ → ℕ) (deferrable : ℕ → Bool) → All Formed (chosen row deferrable)
+pub chosen_formed : (row : ℕ → ℕ) (deferrable : ℕ → Bool) → AllByRecursion Formed (chosen row deferrable)
 unfolding chosen
 chosen_formed row deferrable = list_formed row deferrable
 

@@ -1,6 +1,6 @@
 -- A subtree of two halves as the emission reads it, and the words of its halves one after another. Assumes nothing.
 use Rattle.std.proofs.Common.{◌≡◌, ℕ, zero, suc, ◌+◌, ◌-◌, ◌*◌, ◌^◌, ◌<◌, ◌≤◌, Bool, true, false, cond, eqb, leb, List, [], ◌∷◌, ◌++◌, map, length, get_or, take, drop, set, sym, refl, ap, ◌∙◌, subst, append_assoc, add-zero, arith, length-append, pow_mono}
-use Rattle.std.specs.List.{AllByRecursion as All}
+use Rattle.std.specs.List.{AllByRecursion}
 use Rattle.std.proofs.lemmas.List.{take_more_set, drop-set-lt, drop-drop}
 use Rattle.std.proofs.ByRecursion.{All-append}
 use Rattle.ternary.specs.declared.words.StateNo.{StateNo}
@@ -9,7 +9,7 @@ use Rattle.prefix.specs.declared.place.Node.{Node}
 use Rattle.prefix.specs.declared.place.Place.{Place}
 use Rattle.prefix.specs.Tree.{Tree, node, has, common, either, base, least, candidates, best, emit_under, emit}
 use Rattle.prefix.specs.Row.{build, subtree, placed}
-use Rattle.prefix.specs.Cells.{part, splits, Ends, Emitted}
+use Rattle.prefix.specs.Cells.{part, Ends, Emitted}
 use Rattle.prefix.specs.Reading.{Reads, low_half, high_half}
 use Rattle.prefix.specs.Listed.{stated, word_for, tree_at, words_under, words_at}
 use Rattle.prefix.proofs.Halves.{some_candidate}
@@ -68,26 +68,26 @@ one_or_none false = refl
 
 -- the candidates are successors of the row
 module _ (row : ℕ → ℕ) (deferrable : ℕ → Bool) (P : ℕ → Type 0) (each : (byte : ℕ) → P (row byte)) where
-  all_common : (xs ys : List ℕ) → All P xs → All P (common eqb xs ys)
+  all_common : (xs ys : List ℕ) → AllByRecursion P xs → AllByRecursion P (common eqb xs ys)
   all_common [] ys p = tt
   all_common (x ∷ xs) ys p = go (has eqb x ys) (all_common xs ys p.1)
     where
-      go : (b : Bool) → All P (common eqb xs ys) → All P (cond b (x ∷ common eqb xs ys) (common eqb xs ys))
+      go : (b : Bool) → AllByRecursion P (common eqb xs ys) → AllByRecursion P (cond b (x ∷ common eqb xs ys) (common eqb xs ys))
       go true q = (p.0, q)
       go false q = q
 
-  all_either : (zs xs ys : List ℕ) → All P zs → All P xs → All P ys → All P (either zs xs ys)
+  all_either : (zs xs ys : List ℕ) → AllByRecursion P zs → AllByRecursion P xs → AllByRecursion P ys → AllByRecursion P (either zs xs ys)
   all_either [] xs ys p q r = All-append P xs ys q r
   all_either (z ∷ zs) xs ys p q r = p
 
-  all_candidates : (h v : ℕ) → All P (candidates eqb (build row deferrable h v))
+  all_candidates : (h v : ℕ) → AllByRecursion P (candidates eqb (build row deferrable h v))
   all_candidates zero v = (each v, tt)
   all_candidates (suc h) v =
       let xs = candidates eqb (build row deferrable h (2 * v)) in
       let ys = candidates eqb (build row deferrable h (2 * v + 1)) in
       all_either (common eqb xs ys) xs ys (all_common xs ys (all_candidates h (2 * v))) (all_candidates h (2 * v)) (all_candidates h (2 * v + 1))
 
-  all_first : (xs : List ℕ) → 0 < length xs → All P xs → P (get_or xs 0 0)
+  all_first : (xs : List ℕ) → 0 < length xs → AllByRecursion P xs → P (get_or xs 0 0)
   all_first [] h p = absurd (omega arith)
   all_first (x ∷ xs) h p = p.0
 

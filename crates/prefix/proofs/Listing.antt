@@ -1,7 +1,7 @@
 -- From the memory and the words of a whole row to its shortest list. Assumes nothing.
 use Rattle.std.proofs.Common.{◌≡◌, ℕ, ◌-◌, ◌<◌, ◌≤◌, Bool, eqb, List, [], map, length, sym, ap, ◌∙◌, arith, eqb-true}
 use lib.ListN.{length-map}
-use Rattle.std.specs.List.{AllByRecursion as All}
+use Rattle.std.specs.List.{AllByRecursion}
 use Rattle.ternary.specs.declared.words.StateNo.{StateNo}
 use Rattle.prefix.specs.declared.costs.Costs.{Costs}
 use Rattle.prefix.specs.declared.word.PrefixWord.{PrefixWord}
@@ -46,7 +46,7 @@ module _ (row : ℕ → ℕ) (deferrable : ℕ → Bool) where
   pub list≤ : length list ≤ 256
   list≤ = bounded (length list) (least eqb (subtree row deferrable 0 0)) list_length (small row deferrable 0 0).1
 
-  pub list_formed : All Formed list
+  pub list_formed : AllByRecursion Formed list
   list_formed = formed_redecided state_no (shortest 0 eqb row deferrable) (formed_shortest 0 eqb row deferrable)
 
   -- they are a shortest list for a row of states with these numbers

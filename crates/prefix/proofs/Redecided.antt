@@ -2,7 +2,7 @@
 use Rattle.std.proofs.Common.{◌≡◌, ℕ, ◌<◌, Bool, true, false, cond, List, [], ◌∷◌, map, Some, None, Option, sym, refl, ap, subst, arith}
 use lib.ListN.{length-map}
 use Rattle.std.specs.Option.{option_map}
-use Rattle.std.specs.List.{AllByRecursion as All}
+use Rattle.std.specs.List.{AllByRecursion}
 use Rattle.prefix.specs.declared.word.PrefixWord.{PrefixWord}
 use Rattle.prefix.specs.Words.{Formed, matches, first, Served, ByteRule, Shortest}
 
@@ -29,7 +29,7 @@ module _ {D E : Type 0} (f : D → E) where
       let P : E → Type 0 = λ own. Served own (d byte) (option_map f (first ws byte)) in
       rw (first_redecided ws byte) (subst P (rows byte h) (served_redecided (row byte) (d byte) (first ws byte) (rule byte h)))
 
-  pub formed_redecided : (ws : List (PrefixWord D)) → All Formed ws → All Formed (map redecided ws)
+  pub formed_redecided : (ws : List (PrefixWord D)) → AllByRecursion Formed ws → AllByRecursion Formed (map redecided ws)
   formed_redecided [] p = tt
   formed_redecided (w ∷ ws) p = (p.0, formed_redecided ws p.1)
 

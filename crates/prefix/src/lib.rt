@@ -1,3 +1,5 @@
+#![tactic(auto)]
+
 mod costs;
 mod emit;
 pub mod lists;

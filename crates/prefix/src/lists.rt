@@ -1,5 +1,5 @@
 ghost use Rattle.std.specs.Prelude.{◌≡◌, ℕ, ◌<◌, ◌≤◌, length, take, drop};
-ghost use Rattle.std.specs.List.{AllByRecursion as All};
+ghost use Rattle.std.specs.List.{AllByRecursion};
 ghost use Rattle.prefix.specs.Listed.{chosen, numbered};
 ghost use Rattle.prefix.specs.States.{successors, shares, flags, numbers};
 ghost use Rattle.prefix.specs.Words.{Formed, Shortest, Fewest};
@@ -32,7 +32,7 @@ pub fn shortest_list(
 ) -> usize
     ensures words { take result out.new ≡ chosen (numbered row.now) (flags deferrable.now) }
     ensures shortest { Shortest (take result out.new) (successors row.now) (flags deferrable.now) }
-    ensures formed { All Formed (take result out.new) }
+    ensures formed { AllByRecursion Formed (take result out.new) }
     ensures counted { length (take result out.new) ≡ result }
     ensures bound { result ≤ 256 }
     ensures rest { drop result out.new ≡ drop result out.old }

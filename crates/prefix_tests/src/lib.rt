@@ -1,3 +1,5 @@
+#![tactic(auto)]
+
 // Prefix lists of rows whose least number of words is worked out by hand, and of rows of eight blocks beside a
 // search coded apart.
 ghost use Rattle.std.specs.Prelude.{◌<◌};

@@ -1,5 +1,5 @@
 -- The lines of a plan, one state after another.
-use Rattle.std.proofs.Common.{◌≡◌, ℕ, suc, ◌+◌, List, ◌++◌, sym, ap, ◌∙◌, append_assoc, add-one}
+use Rattle.std.proofs.Common.{◌≡◌, ℕ, ◌+◌, List, ◌++◌, sym, ap, ◌∙◌, append_assoc, add-one}
 use Rattle.forest.specs.Forest.{Forest}
 use Rattle.forest.specs.Plan.{placement_of}
 use Rattle.printed.specs.Lines.{state_text, ended, states_text}

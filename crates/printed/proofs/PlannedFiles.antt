@@ -1,5 +1,5 @@
 -- The plan of a file that was read.
-use Rattle.std.proofs.Common.{◌≡◌, ℕ, ◌+◌, ◌*◌, ◌<◌, ◌≤◌, ◌⊎◌, List, length, take, Ok, Err, Result, sym, ap, ◌∙◌, subst, inl, inr, arith, length-take, MatchResult}
+use Rattle.std.proofs.Common.{◌≡◌, ℕ, ◌*◌, ◌≤◌, List, length, take, Ok, Err, Result, sym, ap, ◌∙◌, subst, inl, inr, arith, MatchResult}
 use Rattle.std.proofs.lemmas.Nat.{mul-le}
 use Rattle.ternary.specs.declared.refusal.Refusal.{Refusal}
 use Rattle.ternary.specs.declared.words.StateNo.{StateNo}

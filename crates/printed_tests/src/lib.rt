@@ -1,3 +1,5 @@
+#![tactic(auto)]
+
 // Lines written out by hand.
 
 #[cfg(test)]

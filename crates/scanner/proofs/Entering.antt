@@ -1,13 +1,12 @@
 -- A load by an unpacked image, told of the image's bytes.
-use Rattle.std.proofs.Common.{◌≡◌, ℕ, ◌<◌, ◌≤◌, min, List, [], length, get_or, Some, None, sym, refl, ap, ◌∙◌, arith}
+use Rattle.std.proofs.Common.{◌≡◌, ℕ, ◌<◌, ◌≤◌, min, List, [], length, get_or, Some, None, sym, ap, ◌∙◌, arith}
 use Rattle.std.specs.List.{slice_get}
 use Rattle.std.proofs.lemmas.Option.{slice_get-get_or}
-use Rattle.ternary.specs.declared.entry.Entry.{Entry}
 use Rattle.ternary.specs.declared.words.StateCode.{StateCode}
 use Rattle.automaton.specs.Limits.{Handed}
 use Rattle.image.specs.declared.reader.Header.{Header}
 use Rattle.image.specs.declared.reader.Image.{Image}
-use Rattle.image.specs.Calls.{Accepted, header_of, held, parts_of}
+use Rattle.image.specs.Calls.{Accepted, header_of, parts_of}
 use Rattle.image.specs.Format.{Parts, decode}
 use Rattle.image.proofs.Ruled.{ruled}
 use Rattle.table.specs.Acceptance.{code_of, Acceptable}

@@ -1,6 +1,6 @@
 -- A list of entries that carries an automaton traces as the automaton runs.
-use Rattle.std.proofs.Common.{◌≡◌, ℕ, ◌+◌, ◌<◌, ◌≤◌, List, [], ◌∷◌, ◌++◌, map, length, get_or, take, drop, Some, None, Ok, Err, Result, sym, refl, ap, ◌∙◌, subst, arith}
-use Rattle.std.specs.List.{AllByRecursion as All}
+use Rattle.std.proofs.Common.{◌≡◌, ℕ, ◌+◌, ◌<◌, ◌≤◌, List, [], ◌∷◌, ◌++◌, map, length, get_or, take, drop, Some, refl, ap, ◌∙◌, subst, arith}
+use Rattle.std.specs.List.{AllByRecursion}
 use Rattle.std.proofs.lemmas.List.{length-map, take_at}
 use Rattle.std.proofs.ByRecursion.{All-take, All-get_or, All-from_get_or}
 use Rattle.ternary.specs.declared.entry.Entry.{Entry}
@@ -8,7 +8,6 @@ use Rattle.ternary.specs.declared.words.Mark.{Mark}
 use Rattle.ternary.specs.declared.words.Progress.{Progress}
 use Rattle.ternary.specs.declared.words.StateCode.{StateCode}
 use Rattle.ternary.specs.Marks.{Marked, marked, held, mark}
-use Rattle.ternary.specs.Match.{first}
 use Rattle.automaton.specs.Limits.{Handed, Within, dfa}
 use Rattle.automaton.specs.Runs.{Dfa, reach, marks}
 use Rattle.table.specs.Acceptance.{Carries}
@@ -20,7 +19,7 @@ use Rattle.scanner.specs.Scanners.{Closed}
 
 -- numbers that are bytes
 abbrev pub Bytes : List ℕ → Type 0
-Bytes = All (λ b. b < 256)
+Bytes = AllByRecursion (λ b. b < 256)
 
 -- numbers that fit eight bits are bytes
 pub bytes_from_typed : (piece : List ℕ) → ((i : ℕ) → get_or piece i 0 < 256) → Bytes piece

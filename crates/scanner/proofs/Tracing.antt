@@ -1,6 +1,6 @@
 -- Laws of the trace: over bytes in a row, one byte more, and where no more bytes can be taken.
 use Rattle.std.proofs.Common.{◌≡◌, ℕ, suc, ◌+◌, ◌<◌, ◌≤◌, List, [], ◌∷◌, ◌++◌, length, take, drop, Some, None, Option, sym, refl, ap, ◌∙◌, subst, ⊎_elim, add-zero, arith}
-use Rattle.std.proofs.lemmas.List.{append_nil, append_assoc, length-append, take-append-drop, take-take}
+use Rattle.std.proofs.lemmas.List.{append-nil, append_assoc, length-append, take-append-drop, take-take}
 use Rattle.std.proofs.lemmas.Bool.{cases_lt}
 use Rattle.ternary.specs.declared.entry.Entry.{Entry}
 use Rattle.ternary.specs.declared.words.StateCode.{StateCode}
@@ -46,7 +46,7 @@ trace_push es code place bs d ms b e k so hit =
     trace-++ es code place bs (b ∷ [])
     ∙ ap (λ o. and_then o (λ t. trace es t.0 (place + length bs) (b ∷ []))) so
     ∙ ap (λ o. before ms (onward (place + length bs) (λ next. Some (next, [])) o)) hit
-    ∙ ap (λ (xs : List Marked). Some (e, ms ++ xs)) (append_nil (mark (place + length bs) k))
+    ∙ ap (λ (xs : List Marked). Some (e, ms ++ xs)) (append-nil (mark (place + length bs) k))
 
 -- one more byte that has none
 pub trace_push_none : (es : List Entry) (code : StateCode) (place : ℕ) (bs : List ℕ) (d : StateCode) (ms : List Marked) (b : ℕ)

@@ -1,9 +1,9 @@
 -- What the calls of a scanner do to the books that it keeps.
-use Rattle.std.proofs.Common.{◌≡◌, ℕ, ◌<◌, ◌≤◌, ltb, List, [], ◌∷◌, ◌++◌, map, length, take, Some, None, Ok, Err, Option, Result, sym, refl, ap, ◌∙◌, subst, arith}
+use Rattle.std.proofs.Common.{◌≡◌, ℕ, ◌<◌, List, [], ◌++◌, length, take, Some, None, Ok, Err, Option, Result, sym, refl, ap, ◌∙◌, subst, arith}
 use Rattle.std.proofs.ByRecursion.{All-take}
 use Rattle.ternary.specs.declared.entry.Entry.{Entry}
 use Rattle.ternary.specs.declared.refusal.Refusal.{Refusal}
-use Rattle.ternary.specs.declared.refusal.Refusal.TheVariants.{NoEntry, NotLoaded, PieceTooLong}
+use Rattle.ternary.specs.declared.refusal.Refusal.TheVariants.{NoEntry, NotLoaded}
 use Rattle.ternary.specs.declared.words.Mark.{Mark}
 use Rattle.ternary.specs.declared.words.Progress.{Progress}
 use Rattle.ternary.specs.declared.words.StateCode.{StateCode}
@@ -16,7 +16,7 @@ use Rattle.scanner.specs.Walks.{Outcome, Tells, Walked}
 use Rattle.scanner.proofs.OneAnswer.{Ends, well, unmatched, too_long, ends}
 use Rattle.scanner.specs.declared.scanner.Position.{Position}
 use Rattle.scanner.specs.declared.scanner.Scanner.{Scanner}
-use Rattle.scanner.specs.Book.{Told, accepted, Book, blank, filled, report, LoadRefuses, Loads, declines, enters, Feeds, takes, Restarts, drops}
+use Rattle.scanner.specs.Book.{Told, accepted, blank, filled, report, LoadRefuses, Loads, declines, enters, Feeds, takes, Restarts, drops}
 use Rattle.scanner.specs.Scanners.{Seen, at_start, Entered, reached, FeedAnswer, RestartAnswer, Stands, Keeps, done_told, fed_told, ByTheBook, KeepsOn}
 use Rattle.scanner.proofs.Simulation.{Bytes, within_closed, reach-++, reach_is, code_of_lem, count_of, marks_of, most_of, has-entry}
 

@@ -1,6 +1,6 @@
 -- One byte more of a walk, and where it ends.
 use Rattle.std.proofs.Common.{◌≡◌, ℕ, ◌+◌, ◌<◌, ◌≤◌, Bool, true, false, cond, List, [], ◌∷◌, ◌++◌, map, length, get_or, take, drop, set, Some, None, Ok, Err, sym, refl, ap, ◌∙◌, subst, inl, inr, add-zero, zero-add, arith}
-use Rattle.std.proofs.lemmas.List.{append_nil, take_more, length-take-le, take_more_set, take-append-drop, map_push, drop-set-lt, drop-drop, length_push, length-map, length-set, take_all}
+use Rattle.std.proofs.lemmas.List.{append-nil, take_more, length-take-le, take_more_set, take-append-drop, map_push, drop-set-lt, drop-drop, length_push, length-map, length-set}
 use Rattle.std.proofs.lemmas.Bool.{ne_eqb, lt-ltb, le-ltb}
 use Rattle.ternary.specs.declared.entry.Entry.{Entry}
 use Rattle.ternary.specs.declared.refusal.Refusal.TheVariants.{NoEntry, PieceTooLong}
@@ -32,7 +32,7 @@ module _ (es : List Entry) (from : StateCode) (piece : List ℕ) (i : ℕ) (code
 
   traced_unmarked : (next : StateCode) (class : ℕ) → first es code.0 (get_or piece i 0) ≡ Some (next, class) → class ≡ 0 → trace es from 0 (take (i + 1) piece) ≡ Some (next, ms)
   traced_unmarked next class hit z =
-      traced_more next class hit ∙ ap (λ (xs : List Marked). Some (next, ms ++ xs)) (mark_zero i class z) ∙ ap (λ (xs : List Marked). Some (next, xs)) (append_nil ms)
+      traced_more next class hit ∙ ap (λ (xs : List Marked). Some (next, ms ++ xs)) (mark_zero i class z) ∙ ap (λ (xs : List Marked). Some (next, xs)) (append-nil ms)
 
   traced_marked : (next : StateCode) (class : ℕ) → first es code.0 (get_or piece i 0) ≡ Some (next, class) → (class ≡ 0 → ⊥) → trace es from 0 (take (i + 1) piece) ≡ Some (next, ms ++ (i, class) ∷ [])
   traced_marked next class hit nz =

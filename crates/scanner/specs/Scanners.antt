@@ -1,5 +1,5 @@
 -- What a scanner holds, what its calls answer and leave, and which books it keeps. Assumes nothing.
-use Rattle.std.specs.Prelude.{◌≡◌, ℕ, ◌<◌, ◌≤◌, List, [], map, length, take, Some, None, Ok, Err, Option, Result}
+use Rattle.std.specs.Prelude.{◌≡◌, ℕ, ◌<◌, ◌≤◌, List, map, length, take, Some, None, Ok, Err, Option, Result}
 use Rattle.ternary.specs.declared.entry.Entry.{Entry}
 use Rattle.ternary.specs.declared.refusal.Refusal.{Refusal}
 use Rattle.ternary.specs.declared.refusal.Refusal.TheVariants.{BadAutomaton, WorkTooShort, OutputTooShort, TooManyEntries, CardFull, CardTooSmall, NoEntry, NotLoaded, PieceTooLong, Malformed, Mismatch, WrongEntry}
@@ -7,7 +7,7 @@ use Rattle.ternary.specs.declared.words.Mark.{Mark}
 use Rattle.ternary.specs.declared.words.Progress.{Progress}
 use Rattle.ternary.specs.declared.words.StateCode.{StateCode}
 use Rattle.ternary.specs.Marks.{marked}
-use Rattle.ternary.specs.Refusals.{number, values, KnownBy}
+use Rattle.ternary.specs.Refusals.{number, values}
 use Rattle.automaton.specs.Limits.{Handed}
 use Rattle.automaton.specs.Runs.{Dfa, reach}
 use Rattle.image.specs.Format.{decode}
@@ -15,7 +15,7 @@ use Rattle.table.specs.Acceptance.{code_of, Acceptable, Carries}
 use Rattle.scanner.specs.Walks.{Outcome}
 use Rattle.scanner.specs.declared.scanner.Position.{Position}
 use Rattle.scanner.specs.declared.scanner.Scanner.{Scanner}
-use Rattle.scanner.specs.Book.{Told, declined, accepted, fed, Book, blank, filled, LoadRefuses, Loads, Feeds, Restarts}
+use Rattle.scanner.specs.Book.{Told, declined, accepted, fed, Book, blank, filled, LoadRefuses}
 
 -- what is to be seen of a scanner: the list of its card, the capacity of its card, and where it stands
 pub record Seen : Type 0 where

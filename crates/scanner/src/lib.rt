@@ -1,2 +1,4 @@
+#![tactic(auto)]
+
 pub mod scanner;
 pub mod walk;

@@ -33,7 +33,7 @@ impl<C: Card> Scanner<C> {
     pub fn new(card: C) -> Scanner<C>
         ensures card { result.card ≡ card }
         ensures position { result.position ≡ None }
-        ensures keeps { Keeps (seen entries size result) blank }
+        ensures keeps { Keeps (seen C.entries C.size result) blank }
     {
         Scanner {
             card,
@@ -44,8 +44,8 @@ impl<C: Card> Scanner<C> {
     // Checks an image against its automaton, fills the card with its entries, and stands at the start state's code.
     pub fn load(&mut self, automaton: Automaton<'_>, image: &[u8]) -> Result<(), Refusal>
         ensures refused { is_err result ≡ true → self.new ≡ self.old }
-        ensures answer { LoadAnswer (handed automaton.entry) image.now (seen entries size self.old) (seen entries size self.new) result }
-        ensures keeps { KeepsOn (Loads (size self.old.card) (handed automaton.entry) image.now) (seen entries size self.old) (done_told result) (seen entries size self.new) }
+        ensures answer { LoadAnswer (handed automaton.entry) image.now (seen C.entries C.size self.old) (seen C.entries C.size self.new) result }
+        ensures keeps { KeepsOn (Loads (C.size self.old.card) (handed automaton.entry) image.now) (seen C.entries C.size self.old) (done_told result) (seen C.entries C.size self.new) }
     {
         check(automaton, image)?;
         let image = unpack(image)?;
@@ -64,8 +64,8 @@ impl<C: Card> Scanner<C> {
     pub fn feed(&mut self, piece: &[u8], marks: &mut [Mark]) -> Result<Progress, Refusal>
         ensures card { self.new.card ≡ self.old.card }
         ensures refused { (why : Refusal) → result ≡ Err why → (number why ≢ 7) → (self.new ≡ self.old) × (marks.new ≡ marks.old) }
-        ensures answer { FeedAnswer (entries self.old.card) self.old.position self.new.position piece.now marks.old marks.new result }
-        ensures keeps { KeepsOn (Feeds piece.now (length marks.old)) (seen entries size self.old) (fed_told result marks.new) (seen entries size self.new) }
+        ensures answer { FeedAnswer (C.entries self.old.card) self.old.position self.new.position piece.now marks.old marks.new result }
+        ensures keeps { KeepsOn (Feeds piece.now (length marks.old)) (seen C.entries C.size self.old) (fed_told result marks.new) (seen C.entries C.size self.new) }
     {
         let Some(at) = self.position else {
             return Err(Refusal::NotLoaded);
@@ -84,7 +84,7 @@ impl<C: Card> Scanner<C> {
         ensures card { self.new.card ≡ self.old.card }
         ensures refused { is_err result ≡ true → self.new ≡ self.old }
         ensures answer { RestartAnswer self.old.position self.new.position result }
-        ensures keeps { KeepsOn Restarts (seen entries size self.old) (done_told result) (seen entries size self.new) }
+        ensures keeps { KeepsOn Restarts (seen C.entries C.size self.old) (done_told result) (seen C.entries C.size self.new) }
     {
         let Some(at) = self.position else {
             return Err(Refusal::NotLoaded);
@@ -100,9 +100,9 @@ impl<C: Card> Scanner<C> {
 // Clears the card, and appends the entries of the image in order.
 fn fill<C: Card>(card: &mut C, image: Image<'_>)
     requires few { length (parts_of image).entries ≤ 4096 }
-    requires room { length (parts_of image).entries ≤ size card.old }
-    ensures listed { entries card.new ≡ (parts_of image.entry).entries }
-    ensures capacity { size card.new ≡ size card.old }
+    requires room { length (parts_of image).entries ≤ C.size card.old }
+    ensures listed { C.entries card.new ≡ (parts_of image.entry).entries }
+    ensures capacity { C.size card.new ≡ C.size card.old }
 {
     card.clear();
     let mut index = 0;

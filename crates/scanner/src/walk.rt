@@ -15,8 +15,8 @@ pub fn walk<C: Card>(
     piece: &[u8],
     marks: &mut [Mark],
 ) -> Result<Progress, Refusal>
-    ensures outcome { Outcome (entries card.now) from piece.now marks.old marks.new result }
-    ensures only { Only (entries card.now) from piece.now marks.old marks.new result }
+    ensures outcome { Outcome (C.entries card.now) from piece.now marks.old marks.new result }
+    ensures only { Only (C.entries card.now) from piece.now marks.old marks.new result }
 {
     if piece.len() > LONGEST_PIECE {
         return Err(Refusal::PieceTooLong);

@@ -1,2 +1,4 @@
+#![tactic(auto)]
+
 // Automata and their table images: when an image carries its automaton.
 pub mod check;

@@ -1,3 +1,5 @@
+#![tactic(auto)]
+
 // Images checked against the automaton that marks each "ab". Every expected value is worked out by hand.
 #[cfg(test)]
 mod tests {

@@ -1,3 +1,5 @@
+#![tactic(auto)]
+
 // Prints a line for the automaton file on standard input.
 use printed::summary::summary_line;
 use std::io;

@@ -1,8 +1,5 @@
 -- The number and the values of a refusal tell it from every other.
 use Rattle.std.proofs.Common.{◌≡◌, ℕ, Bool, true, false, cond, eqb, List, get_or, sym, refl, ap, ◌∙◌}
-use Rattle.ternary.specs.declared.words.Progress.{Progress}
-use Rattle.ternary.specs.declared.words.StateCode.{StateCode}
-use Rattle.ternary.specs.declared.words.StateNo.{StateNo}
 use Rattle.ternary.specs.declared.refusal.Refusal.{Refusal}
 use Rattle.ternary.specs.declared.refusal.Refusal.TheVariants.{BadAutomaton, WorkTooShort, OutputTooShort, TooManyEntries, CardFull, CardTooSmall, NoEntry, NotLoaded, PieceTooLong, Malformed, Mismatch, WrongEntry}
 use Rattle.ternary.specs.Refusals.{number, values, KnownBy}

@@ -1,6 +1,6 @@
 -- Ternary entries and the first match over a list of them. Assumes nothing.
 use Rattle.std.specs.Prelude.{◌≡◌, ℕ, Bool, true, false, ◌&&◌, List, [], ◌∷◌, ◌++◌, Some, None, Option, ◌==◌, bit_and}
-use Rattle.std.specs.List.{AllByRecursion as All}
+use Rattle.std.specs.List.{AllByRecursion}
 use Rattle.ternary.specs.declared.entry.Entry.{Entry}
 use Rattle.ternary.specs.declared.words.StateCode.{StateCode}
 use Rattle.ternary.specs.Bits.{bit}
@@ -23,7 +23,7 @@ decision e = (e.next, e.class)
 
 -- no entry of a list matches
 abbrev pub NoneMatch : List Entry → ℕ → ℕ → Type 0
-NoneMatch es code byte = All (λ e. Matches e code byte → ⊥) es
+NoneMatch es code byte = AllByRecursion (λ e. Matches e code byte → ⊥) es
 
 -- an answer is the first match: an entry that matches, with none before it that does; or none does at all
 abbrev pub IsFirst : List Entry → ℕ → ℕ → Option Decision → Type 0

@@ -1,3 +1,5 @@
+#![tactic(auto)]
+
 pub mod entry;
 pub mod refusal;
 pub mod words;

@@ -11,7 +11,7 @@ fill-requires c =
     let n = ap (λ h. h.states) c.header-header.ensures in
     let records = take_rest c.args.file.now 9 in
     record {
-      sound = ap is_some (λ i. records_fault (n i) (n i) 9 (records i)) ∙ (accepted_parts c.args.file.now (sym c.in-default.ensures)).records;
+      sound = ap is_some (λ i. records_fault (n i) (n i) 9 (records i)) ∙ (accepted_parts c.args.file.now (sym c.in_default.ensures)).records;
       rows = omega arith;
       marks = omega arith;
     }
@@ -22,7 +22,7 @@ returns c =
     let n = ap (λ h. h.states) c.header-header.ensures in
     let records = take_rest file 9 in
     let states : records_in c.header-header.result.states _ ≡ records_in (word file 5) (drop 9 file) = λ i. records_in (n i) (records i) in
-    let ok = read_ok file (length c.args.successors.now) (length c.args.classes.now) (sym c.in-default.ensures) (omega (arith, n)) (omega (arith, n)) in
+    let ok = read_ok file (length c.args.successors.now) (length c.args.classes.now) (sym c.in_default.ensures) (omega (arith, n)) (omega (arith, n)) in
     record {
       answer = ap Ok c.header-header.ensures ∙ sym ok;
       successors = c.fill.ensures.rows ∙ ap (λ (l : List StateRecord). written c.args.successors.now 0 (flat_map row_of l)) states;

@@ -1,5 +1,5 @@
-use Rattle.std.proofs.Common.{◌≡◌, ℕ, ◌<◌, get_or, refl, subst, arith}
-use Rattle.std.specs.List.{AllByRecursion as All}
+use Rattle.std.proofs.Common.{◌<◌, refl, subst, arith}
+use Rattle.std.specs.List.{AllByRecursion}
 use Rattle.std.proofs.lemmas.List.{take_all}
 use Rattle.std.proofs.ByRecursion.{All-more, All-get_or}
 use Rattle.std.proofs.lemmas.Bool.{false≢true}
@@ -11,19 +11,19 @@ returns-then-number-states c = (
   λ e. absurd (false≢true e),
   λ all. absurd
       (let P : StateNo → Type 0 = λ n. n.0 < c.args.states in
-      let below = All-get_or P c.args.numbers.now c.loop-number.number_index (record { 0 = 0 }) c.loop-number-test.true all in
+      let below = All-get_or P c.args.numbers.now c.loop-number.number-index (record { 0 = 0 }) c.loop-number-test.true all in
       omega (arith, below)),
 )
 
 pub loop-number-preserved : goal.loop-number-preserved
 loop-number-preserved c =
     let P : StateNo → Type 0 = λ n. n.0 < c.args.states in
-    All-more P c.args.numbers.now c.loop-number.number_index (record { 0 = 0 }) c.loop-number-test.true c.loop-number.invariant (omega arith)
+    All-more P c.args.numbers.now c.loop-number.number-index (record { 0 = 0 }) c.loop-number-test.true c.loop-number.invariant (omega arith)
 
 pub returns : goal.returns
 returns c = (
   λ e.
       let P : StateNo → Type 0 = λ n. n.0 < c.args.states in
-      subst (All P) (take_all _ _ c.loop-number-test.false) c.loop-number.invariant,
+      subst (AllByRecursion P) (take_all _ _ c.loop-number-test.false) c.loop-number.invariant,
   λ all. refl,
 )

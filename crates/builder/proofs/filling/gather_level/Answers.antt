@@ -9,21 +9,21 @@ use Rattle.builder.proofs.Blocks.{block_entries, level_grows, level_with, level_
 use Rattle.builder.proofs.Collecting.{broken, further}
 use Rattle.builder.proofs.Standing.{standing}
 use Rattle.builder.proofs.filling.gather_level.Goals as goal
-use Rattle.builder.proofs.filling.gather_level.Goals.{then-place-of-depth+in-ok-gather-state, else-place-of-depth}
+use Rattle.builder.proofs.filling.gather_level.Goals.{then-place_of-depth+in_ok-gather_state, else-place_of-depth}
 
-pub returns-in-err-gather-state : goal.returns-in-err-gather-state
-returns-in-err-gather-state c =
+pub returns-in_err-gather_state : goal.returns-in_err-gather_state
+returns-in_err-gather_state c =
     let a = dfa (handed c.args.automaton) in
     let lists = lists_of a in
     let s = c.loop-s.s in
     let d = c.args.depth in
-    let place = c.place-of.result in
-    let is : (forest_of a).depth s ≡ place.depth = sym (ap (λ (p : Placement). p.depth) (standing a c.args.plan.now c.requires.planned s place c.loop-s-test.true c.place-of.ensures)) in
+    let place = c.place_of.result in
+    let is : (forest_of a).depth s ≡ place.depth = sym (ap (λ (p : Placement). p.depth) (standing a c.args.plan.now c.requires.planned s place c.loop-s-test.true c.place_of.ensures)) in
     let so_far = ap length c.loop-s.invariant ∙ length-append (held c.args.gathered.now) (level_over a lists d s) in
-    let next = ap length (level_with a (forest_of a) (λ t. map byte_word (lists t)) d s (is ∙ c.if-place-of-depth.true)) ∙ (length-append (level_over a lists d s) _ ∙ ap (λ (es : List Entry). length (level_over a lists d s) + length es) (block_entries a s (lists s))) in
+    let next = ap length (level_with a (forest_of a) (λ t. map byte_word (lists t)) d s (is ∙ c.if-place_of-depth.true)) ∙ (length-append (level_over a lists d s) _ ∙ ap (λ (es : List Entry). length (level_over a lists d s) + length es) (block_entries a s (lists s))) in
     let grows = level_grows a (forest_of a) (λ t. map byte_word (lists t)) d (s + 1) c.args.automaton.states (omega arith) in
-    broken c.args.gathered.now c.loop-s.gathered c.gather-state.new.gathered c.gather-state.new.gathered (map (entry_for a s) (lists s)) (level_over a lists d c.args.automaton.states) c.from-residual.result _
-    c.from-residual.ensures.1 c.in-err-gather-state.ensures (omega (arith, so_far, next, grows))
+    broken c.args.gathered.now c.loop-s.gathered c.gather_state.new.gathered c.gather_state.new.gathered (map (entry_for a s) (lists s)) (level_over a lists d c.args.automaton.states) c.from_residual.result _
+    c.from_residual.ensures.1 c.in_err-gather_state.ensures (omega (arith, so_far, next, grows))
 
 pub loop-s-preserved : goal.loop-s-preserved
 loop-s-preserved c =
@@ -31,14 +31,14 @@ loop-s-preserved c =
     let lists = lists_of a in
     let s = c.loop-s.s in
     let d = c.args.depth in
-    let place = c.place-of.result in
-    let is : (forest_of a).depth s ≡ place.depth = sym (ap (λ (p : Placement). p.depth) (standing a c.args.plan.now c.requires.planned s place c.loop-s-test.true c.place-of.ensures)) in
-    elim c.if-place-of-depth.branch [
-      | then-place-of-depth+in-ok-gather-state w ↦
+    let place = c.place_of.result in
+    let is : (forest_of a).depth s ≡ place.depth = sym (ap (λ (p : Placement). p.depth) (standing a c.args.plan.now c.requires.planned s place c.loop-s-test.true c.place_of.ensures)) in
+    elim c.if-place_of-depth.branch [
+      | then-place_of-depth+in_ok-gather_state w ↦
           ap held w.gathered-is
-          ∙ further c.args.gathered.now c.loop-s.gathered w.gather-state.new.gathered (level_over a lists d s) (map (entry_for a s) (lists s)) (level_over a lists d (s + 1)) c.loop-s.invariant w.in-ok-gather-state.ensures
-          (level_with a (forest_of a) (λ t. map byte_word (lists t)) d s (is ∙ w.if-place-of-depth.true) ∙ ap (λ (es : List Entry). level_over a lists d s ++ es) (block_entries a s (lists s)))
-      | else-place-of-depth w ↦
+          ∙ further c.args.gathered.now c.loop-s.gathered w.gather_state.new.gathered (level_over a lists d s) (map (entry_for a s) (lists s)) (level_over a lists d (s + 1)) c.loop-s.invariant w.in_ok-gather_state.ensures
+          (level_with a (forest_of a) (λ t. map byte_word (lists t)) d s (is ∙ w.if-place_of-depth.true) ∙ ap (λ (es : List Entry). level_over a lists d s ++ es) (block_entries a s (lists s)))
+      | else-place_of-depth w ↦
           ap held w.gathered-is
-          ∙ (c.loop-s.invariant ∙ ap (λ (es : List Entry). held c.args.gathered.now ++ es) (sym (level_without a (forest_of a) (λ t. map byte_word (lists t)) d s (λ e. w.if-place-of-depth.false (sym is ∙ e)))))
+          ∙ (c.loop-s.invariant ∙ ap (λ (es : List Entry). held c.args.gathered.now ++ es) (sym (level_without a (forest_of a) (λ t. map byte_word (lists t)) d s (λ e. w.if-place_of-depth.false (sym is ∙ e)))))
     ]

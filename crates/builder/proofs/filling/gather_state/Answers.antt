@@ -1,6 +1,6 @@
 use Rattle.std.proofs.Common.{◌≡◌, ℕ, ◌-◌, ◌<◌, List, map, take, sym, ap, ◌∙◌, subst}
 use native.Mathlib.Nat.{sub-zero}
-use Rattle.std.specs.List.{AllByRecursion as All}
+use Rattle.std.specs.List.{AllByRecursion}
 use Rattle.ternary.specs.declared.words.StateNo.{StateNo}
 use Rattle.automaton.specs.Limits.{dfa, handed}
 use Rattle.prefix.specs.declared.word.PrefixWord.{PrefixWord}
@@ -10,36 +10,36 @@ use Rattle.builder.proofs.Canonical.{lists_below}
 use Rattle.builder.proofs.Standing.{standing, parent_below, list_is}
 use Rattle.builder.proofs.filling.gather_state.Goals as goal
 
-pub list-of-count-requires : goal.list-of-count-requires
-list-of-count-requires c =
+pub list_of-count-requires : goal.list_of-count-requires
+list_of-count-requires c =
     let a = dfa (handed c.args.automaton) in
     let s = c.args.state.0 in
-    let place = c.place-of-parent.result in
-    let is = standing a c.args.plan.now c.requires.planned s place c.requires.known c.place-of-parent.ensures in
+    let place = c.place_of-parent.result in
+    let is = standing a c.args.plan.now c.requires.planned s place c.requires.known c.place_of-parent.ensures in
     record { within = c.requires.within; known = (c.requires.known, parent_below a s place is c.requires.known) }
 
-pub gather-words-requires : goal.gather-words-requires
-gather-words-requires c =
+pub gather_words-requires : goal.gather_words-requires
+gather_words-requires c =
     let a = dfa (handed c.args.automaton) in
     let s = c.args.state.0 in
-    let place = c.place-of-parent.result in
-    let is = standing a c.args.plan.now c.requires.planned s place c.requires.known c.place-of-parent.ensures in
-    let count = c.list-of-count.result in
-    let out = c.list-of-count.new.words in
-    let words : take (count - 0) out ≡ lists_of a s = ap (λ (n : ℕ). take n out) (sub-zero count) ∙ (c.list-of-count.ensures.words ∙ list_is a s place is) in
+    let place = c.place_of-parent.result in
+    let is = standing a c.args.plan.now c.requires.planned s place c.requires.known c.place_of-parent.ensures in
+    let count = c.list_of-count.result in
+    let out = c.list_of-count.new.words in
+    let words : take (count - 0) out ≡ lists_of a s = ap (λ (n : ℕ). take n out) (sub-zero count) ∙ (c.list_of-count.ensures.words ∙ list_is a s place is) in
     record {
       within = c.requires.within;
       planned = c.requires.planned;
-      known = (c.requires.known, subst (λ (ws : List (PrefixWord StateNo)). All (λ w. w.next.0 < a.states) ws) (sym words) (lists_below (handed c.args.automaton) c.requires.within s));
+      known = (c.requires.known, subst (λ (ws : List (PrefixWord StateNo)). AllByRecursion (λ w. w.next.0 < a.states) ws) (sym words) (lists_below (handed c.args.automaton) c.requires.within s));
     }
 
 pub returns : goal.returns
 returns c =
     let a = dfa (handed c.args.automaton) in
     let s = c.args.state.0 in
-    let place = c.place-of-parent.result in
-    let is = standing a c.args.plan.now c.requires.planned s place c.requires.known c.place-of-parent.ensures in
-    let count = c.list-of-count.result in
-    let out = c.list-of-count.new.words in
-    let words : take (count - 0) out ≡ lists_of a s = ap (λ (n : ℕ). take n out) (sub-zero count) ∙ (c.list-of-count.ensures.words ∙ list_is a s place is) in
-    subst (λ (ws : List (PrefixWord StateNo)). Gathers c.args.gathered.now c.gather-words.new.gathered (map (entry_for a s) ws) c.gather-words.result) words c.gather-words.ensures
+    let place = c.place_of-parent.result in
+    let is = standing a c.args.plan.now c.requires.planned s place c.requires.known c.place_of-parent.ensures in
+    let count = c.list_of-count.result in
+    let out = c.list_of-count.new.words in
+    let words : take (count - 0) out ≡ lists_of a s = ap (λ (n : ℕ). take n out) (sub-zero count) ∙ (c.list_of-count.ensures.words ∙ list_is a s place is) in
+    subst (λ (ws : List (PrefixWord StateNo)). Gathers c.args.gathered.now c.gather_words.new.gathered (map (entry_for a s) ws) c.gather_words.result) words c.gather_words.ensures

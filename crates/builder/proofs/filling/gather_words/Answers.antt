@@ -13,31 +13,31 @@ use Rattle.builder.proofs.filling.gather_words.Goals as goal
 abbrev blank : PrefixWord StateNo
 blank = record { bits = 0; value = 0; next = record { 0 = 0 } }
 
-pub entry-of-requires : goal.entry-of-requires
-entry-of-requires c = record {
+pub entry_of-requires : goal.entry_of-requires
+entry_of-requires c = record {
   within = c.requires.within;
   planned = c.requires.planned;
   known = (c.requires.known.0, All-get_or (λ (w : PrefixWord StateNo). w.next.0 < c.args.automaton.states) c.args.words.now c.loop-word.word-index blank (omega arith) c.requires.known.1);
 }
 
-pub returns-in-err-push : goal.returns-in-err-push
-returns-in-err-push c =
+pub returns-in_err-push : goal.returns-in_err-push
+returns-in_err-push c =
     let f = entry_for (dfa (handed c.args.automaton)) c.args.state.0 in
     let words = c.args.words.now in
     let i = c.loop-word.word-index in
-    let e = c.entry-of.result in
+    let e = c.entry_of.result in
     let so_far = ap length c.loop-word.invariant ∙ length-append (held c.args.gathered.now) (map f (take i words)) in
-    broken c.args.gathered.now c.loop-word.gathered c.push.new.self c.push.new.self (e ∷ []) (map f words) c.from-residual.result _
-    c.from-residual.ensures.1 c.in-err-push.ensures (omega (arith, so_far, up_to f words i (omega arith)))
+    broken c.args.gathered.now c.loop-word.gathered c.push.new.self c.push.new.self (e ∷ []) (map f words) c.from_residual.result _
+    c.from_residual.ensures.1 c.in_err-push.ensures (omega (arith, so_far, up_to f words i (omega arith)))
 
 pub loop-word-preserved : goal.loop-word-preserved
 loop-word-preserved c =
     let f = entry_for (dfa (handed c.args.automaton)) c.args.state.0 in
     let words = c.args.words.now in
     let i = c.loop-word.word-index in
-    let e = c.entry-of.result in
-    further c.args.gathered.now c.loop-word.gathered c.push.new.self (map f (take i words)) (e ∷ []) (map f (take (i + 1) words)) c.loop-word.invariant c.in-ok-push.ensures
-    (map_more f words i blank (omega arith) ∙ ap (λ (x : Entry). map f (take i words) ++ x ∷ []) (sym c.entry-of.ensures))
+    let e = c.entry_of.result in
+    further c.args.gathered.now c.loop-word.gathered c.push.new.self (map f (take i words)) (e ∷ []) (map f (take (i + 1) words)) c.loop-word.invariant c.in_ok-push.ensures
+    (map_more f words i blank (omega arith) ∙ ap (λ (x : Entry). map f (take i words) ++ x ∷ []) (sym c.entry_of.ensures))
 
 pub returns : goal.returns
 returns c =

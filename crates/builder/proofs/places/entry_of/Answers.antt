@@ -12,13 +12,13 @@ returns c =
     let a = dfa (handed c.args.automaton) in
     let s = c.args.state.0 in
     let w = c.args.word in
-    let own = standing a c.args.plan.now c.requires.planned s c.place-of-own.result c.requires.known.0 c.place-of-own.ensures in
-    let next = standing a c.args.plan.now c.requires.planned w.next.0 c.place-of-next.result c.requires.known.1 c.place-of-next.ensures in
+    let own = standing a c.args.plan.now c.requires.planned s c.place_of-own.result c.requires.known.0 c.place_of-own.ensures in
+    let next = standing a c.args.plan.now c.requires.planned w.next.0 c.place_of-next.result c.requires.known.1 c.place_of-next.ensures in
     let k = c.new.ensures in
     entry-same c.new.result (entry_for a s w)
-    (k.code_value_lem ∙ ap (λ (p : Placement). bit_and p.code.0 p.mask) own)
-    (k.code-mask ∙ ap (λ (p : Placement). p.mask) own)
-    (k.byte_value_lem ∙ (λ i. bit_and (c.byte-value.ensures.value i) (c.byte-mask.ensures i)))
-    (k.byte_mask ∙ c.byte-mask.ensures)
+    (k.code_value ∙ ap (λ (p : Placement). bit_and p.code.0 p.mask) own)
+    (k.code_mask ∙ ap (λ (p : Placement). p.mask) own)
+    (k.byte_value ∙ (λ i. bit_and (c.byte_value.ensures.value i) (c.byte_mask.ensures i)))
+    (k.byte_mask ∙ c.byte_mask.ensures)
     (k.next ∙ ap (λ (p : Placement). p.code) next)
     k.class

@@ -14,8 +14,8 @@ returns c =
     let s = c.args.state.0 in
     record {
       words =
-          c.shortest-list.ensures.words
-          ∙ chosen-same (numbered c.row-of-own.result) (a.next s) (flags c.deferrable-of-deferrable.result) (shared_with a (number_of c.args.parent) s)
-          (λ byte h. ap (λ (t : StateNo). t.0) (c.row-of-own.ensures byte h)) c.deferrable-of-deferrable.ensures;
-      bound = c.shortest-list.ensures.bound;
+          c.shortest_list.ensures.words
+          ∙ chosen-same (numbered c.row_of-own.result) (a.next s) (flags c.deferrable_of-deferrable.result) (shared_with a (number_of c.args.parent) s)
+          (λ byte h. ap (λ (t : StateNo). t.0) (c.row_of-own.ensures byte h)) c.deferrable_of-deferrable.ensures;
+      bound = c.shortest_list.ensures.bound;
     }

@@ -6,13 +6,13 @@ use Rattle.column.proofs.bitmaps.write_entry.Goals as goal
 pub returns : goal.returns
 returns c =
     let ws = c.args.words.now in
-    let ws₁ = c.write-field.new.words in
-    let ws₂ = c.write-field-2.new.words in
+    let ws₁ = c.write_field.new.words in
+    let ws₂ = c.write_field-2.new.words in
     let i = c.args.index in
     let e = c.args.entry.now in
-    let by_code = marked_at ws₁ (first_word i) 16 (i % 64) _ _ e.code_value e.code_mask c.code-value.ensures c.code-mask.ensures c.write-field.ensures.marked in
+    let by_code = marked_at ws₁ (first_word i) 16 (i % 64) _ _ e.code_value e.code_mask c.code_value.ensures c.code_mask.ensures c.write_field.ensures.marked in
     record {
-      kept = both_kept ws ws₁ ws₂ i c.write-field.ensures.kept c.write-field-2.ensures.kept;
-      code = code-marked ws₁ ws₂ i e.code_value e.code_mask c.write-field-2.ensures.kept by_code;
-      byte = marked_at ws₂ (first_word i + 32) 8 (i % 64) _ _ e.byte_value e.byte_mask c.byte-value-value.ensures c.byte-mask-mask.ensures c.write-field-2.ensures.marked;
+      kept = both_kept ws ws₁ ws₂ i c.write_field.ensures.kept c.write_field-2.ensures.kept;
+      code = code-marked ws₁ ws₂ i e.code_value e.code_mask c.write_field-2.ensures.kept by_code;
+      byte = marked_at ws₂ (first_word i + 32) 8 (i % 64) _ _ e.byte_value e.byte_mask c.byte_value-value.ensures c.byte_mask-mask.ensures c.write_field-2.ensures.marked;
     }

@@ -13,8 +13,8 @@ loop-k-preserved c =
     let ws = c.loop-k.words in
     let ws₁ = c.put.new.words in
     let ws₂ = c.put-in-loop-k.new.words in (
-      kept_more ws₀ ws ws₁ ws₂ c.args.base c.loop-k.k c.args.place c.args.value c.args.mask _ _ c.requires.place-bound c.put.ensures c.put-in-loop-k.ensures c.loop-k.invariant.0,
-      marked_more ws₀ ws ws₁ ws₂ c.args.base c.loop-k.k c.args.place c.args.value c.args.mask _ _ c.requires.place-bound c.put.ensures c.put-in-loop-k.ensures
+      kept_more ws₀ ws ws₁ ws₂ c.args.base c.loop-k.k c.args.place c.args.value c.args.mask _ _ c.requires.place_bound c.put.ensures c.put-in-loop-k.ensures c.loop-k.invariant.0,
+      marked_more ws₀ ws ws₁ ws₂ c.args.base c.loop-k.k c.args.place c.args.value c.args.mask _ _ c.requires.place_bound c.put.ensures c.put-in-loop-k.ensures
           (bit_clear_test c.args.value c.loop-k.k) (bit_same_test c.args.value c.args.mask c.loop-k.k) c.loop-k.invariant.1,
     )
 

@@ -9,19 +9,19 @@ loop-call-init g c = so_far_none _ _ (seen g.C.Card.entries g.C.Card.size c.new-
 
 pub loop-call-preserved : goal.loop-call-preserved
 loop-call-preserved g c =
-    so_far_more _ _ _ _ _ _ (seen g.C.Card.entries g.C.Card.size c.loop-call.scanner) (seen g.C.Card.entries g.C.Card.size c.answer-to.new.scanner)
-    c.call-item.result c.in-ok-answer.answer c.loop-call-test.true c.call-item.is c.in-ok-push.ensures.items c.in-ok-answer.ensures.capacity c.in-ok-answer.ensures.keeps
+    so_far_more _ _ _ _ _ _ (seen g.C.Card.entries g.C.Card.size c.loop-call.scanner) (seen g.C.Card.entries g.C.Card.size c.answer_to.new.scanner)
+    c.call-item.result c.in_ok-answer.answer c.loop-call-test.true c.call-item.is c.in_ok-push.ensures.items c.in_ok-answer.ensures.capacity c.in_ok-answer.ensures.keeps
     c.loop-call.invariant
 
-pub returns-in-err-answer : goal.returns-in-err-answer
-returns-in-err-answer g c =
-    let p = err_from_is_err_and c.from-residual.result c.from-residual.ensures.1 in
-    so_far_broken _ _ _ _ _ _ _ _ c.from-residual.result p.0 (ap g.C.Card.size c.new-scanner.ensures.card) refl p.1 c.loop-call.invariant
+pub returns-in_err-answer : goal.returns-in_err-answer
+returns-in_err-answer g c =
+    let p = err_from_is_err_and c.from_residual.result c.from_residual.ensures.1 in
+    so_far_broken _ _ _ _ _ _ _ _ c.from_residual.result p.0 (ap g.C.Card.size c.new-scanner.ensures.card) refl p.1 c.loop-call.invariant
 
-pub returns-in-err-push : goal.returns-in-err-push
-returns-in-err-push g c =
-    let p = err_from_is_err_and c.from-residual-in-err-push.result c.from-residual-in-err-push.ensures.1 in
-    so_far_broken _ _ _ _ _ _ _ _ c.from-residual-in-err-push.result p.0 (ap g.C.Card.size c.new-scanner.ensures.card) c.in-err-push.ensures.items p.1 c.loop-call.invariant
+pub returns-in_err-push : goal.returns-in_err-push
+returns-in_err-push g c =
+    let p = err_from_is_err_and c.from_residual-in_err-push.result c.from_residual-in_err-push.ensures.1 in
+    so_far_broken _ _ _ _ _ _ _ _ c.from_residual-in_err-push.result p.0 (ap g.C.Card.size c.new-scanner.ensures.card) c.in_err-push.ensures.items p.1 c.loop-call.invariant
 
 pub returns : goal.returns
 returns g c = so_far_ran _ _ _ _ _ _ _ true (ap g.C.Card.size c.new-scanner.ensures.card) (λ w. omega (arith, c.loop-call.auto.call-index-end)) c.loop-call.invariant

@@ -5,8 +5,8 @@ use Rattle.forest.proofs.Arrays.{len_within, part_whole}
 use Rattle.forest.proofs.Places.{fill_more}
 use Rattle.forest.proofs.codes.code_parts.Goals as goal
 
-pub overflow-sub-parts : goal.overflow-sub-parts
-overflow-sub-parts c =
+pub overflow_sub-parts : goal.overflow_sub-parts
+overflow_sub-parts c =
     let s = c.loop-s.s in
     omega (arith, c.requires.lens s c.loop-s-test.true, c.requires.width, len_within c.args.parents.now c.args.depths.now c.requires.forest s c.loop-s-test.true)
 

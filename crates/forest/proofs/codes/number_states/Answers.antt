@@ -4,8 +4,8 @@ use Rattle.forest.proofs.Counters.{Tallied, deferring_bound, tally_none, tally_r
 use Rattle.forest.proofs.codes.number_states.Goals as goal
 use Rattle.forest.proofs.codes.number_states.Goals.{in-None, in-Some}
 
-pub overflow-add-roots : goal.overflow-add-roots
-overflow-add-roots c = omega (arith, deferring_bound (parents_in c.args.parents.now) None c.loop-s.s)
+pub overflow_add-roots : goal.overflow_add-roots
+overflow_add-roots c = omega (arith, deferring_bound (parents_in c.args.parents.now) None c.loop-s.s)
 
 pub loop-s-init : goal.loop-s-init
 loop-s-init c = tally_none (parents_in c.args.parents.now)
@@ -13,8 +13,8 @@ loop-s-init c = tally_none (parents_in c.args.parents.now)
 pub bounds-children-p : goal.bounds-children-p
 bounds-children-p c = omega (arith, c.requires.inside c.loop-s.s c.in-Some.p c.loop-s-test.true c.in-Some.is)
 
-pub overflow-add-children : goal.overflow-add-children
-overflow-add-children c =
+pub overflow_add-children : goal.overflow_add-children
+overflow_add-children c =
     let p = c.in-Some.p in
     let hp : p < 512 = omega (arith, c.requires.inside c.loop-s.s p c.loop-s-test.true c.in-Some.is) in
     omega (arith, c.loop-s.invariant.3 p hp, deferring_bound (parents_in c.args.parents.now) (Some p) c.loop-s.s)

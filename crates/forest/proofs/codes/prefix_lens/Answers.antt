@@ -5,6 +5,6 @@ use Rattle.forest.proofs.codes.prefix_lens.Goals as goal
 
 pub loop-s-preserved : goal.loop-s-preserved
 loop-s-preserved c = (
-  length-set c.loop-s.lens c.loop-s.s c.prefix-len.result ∙ c.loop-s.invariant.0,
-  fill_more c.loop-s.lens c.loop-s.s c.prefix-len.result 0 (forest_in c.args.parents.now c.args.depths.now).len (omega arith) c.prefix-len.ensures c.loop-s.invariant.1,
+  length-set c.loop-s.lens c.loop-s.s c.prefix_len.result ∙ c.loop-s.invariant.0,
+  fill_more c.loop-s.lens c.loop-s.s c.prefix_len.result 0 (forest_in c.args.parents.now c.args.depths.now).len (omega arith) c.prefix_len.ensures c.loop-s.invariant.1,
 )

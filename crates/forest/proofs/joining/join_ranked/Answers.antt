@@ -1,4 +1,4 @@
-use Rattle.std.proofs.Common.{◌≡◌, ℕ, suc, ◌+◌, ◌-◌, length, sym, refl, ap, ◌∙◌, subst, arith}
+use Rattle.std.proofs.Common.{◌≡◌, ℕ, suc, ◌+◌, ◌-◌, length, sym, ap, ◌∙◌, subst, arith}
 use Rattle.automaton.specs.Runs.{Dfa}
 use Rattle.forest.specs.Deferment.{Trees, kruskal, pairs_below, ranked, trees_of}
 use Rattle.forest.specs.Joining.{Tracks, Shares}
@@ -20,14 +20,14 @@ loop-fewer-preserved c =
     let fewer = c.loop-fewer.fewer in
     let long = c.loop-fewer.invariant.0 in
     let counts = c.args.counts.now in (
-      c.join-sharing.auto.tree ∙ long,
-      c.join-sharing.ensures.sized,
+      c.join_sharing.auto.tree ∙ long,
+      c.join_sharing.ensures.sized,
       λ a shares tracks.
           let before = c.loop-fewer.invariant.2 a shares tracks in
           let here : Shares a counts (length c.loop-fewer.tree) = subst (Shares a counts) (sym long) shares in (
             kruskal before.0 (pairs_below a (256 - fewer) (length c.loop-fewer.tree)),
             (
-              c.join-sharing.ensures.turns a here before.0 before.1.0,
+              c.join_sharing.ensures.turns a here before.0 before.1.0,
               step a before.0 _ (225 - fewer) (225 - (fewer + 1)) (256 - fewer) (length c.loop-fewer.tree) (omega arith) (omega arith) (sym here.states) before.1.1,
             ),
           ),

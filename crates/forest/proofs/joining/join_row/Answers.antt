@@ -1,4 +1,4 @@
-use Rattle.std.proofs.Common.{◌≡◌, ℕ, ◌+◌, Bool, true, false, cond, List, length, sym, refl, ap, ◌∙◌, subst, arith}
+use Rattle.std.proofs.Common.{◌≡◌, ℕ, ◌+◌, Bool, true, false, cond, List, length, sym, ap, ◌∙◌, subst, arith}
 use Rattle.automaton.specs.Runs.{Dfa}
 use Rattle.forest.specs.Deferment.{Trees, kruskal, pairs_of}
 use Rattle.forest.specs.Joining.{turn, Sized, Tracks, Shares, pair_shares}
@@ -26,10 +26,10 @@ loop-t-preserved c =
     elim c.if-shares.branch [
       | then-shares w ↦
           subst (λ (X : Type 0). X) (λ i. Goal (sym w.tree-is i) (sym w.pairs-is i) (sym w.joined-is i)) (
-            w.join-pair.auto.tree ∙ long,
-            w.join-pair.ensures.sized,
+            w.join_pair.auto.tree ∙ long,
+            w.join_pair.ensures.sized,
             λ a shares f tracks. after_turn a f c.args.shared s t true _ _ _ (sym w.if-shares.true ∙ c.shares.ensures a shares)
-                (w.join-pair.ensures.turn (kruskal f (pairs_of a c.args.shared s t)) (c.loop-t.invariant.2 a shares f tracks)),
+                (w.join_pair.ensures.turn (kruskal f (pairs_of a c.args.shared s t)) (c.loop-t.invariant.2 a shares f tracks)),
           )
       | else-shares w ↦
           subst (λ (X : Type 0). X) (λ i. Goal (sym w.tree-is i) (sym w.pairs-is i) (sym w.joined-is i)) (

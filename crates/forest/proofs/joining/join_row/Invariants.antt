@@ -1,4 +1,4 @@
-use Rattle.std.proofs.Common.{◌≡◌, ◌≤◌, length}
+use Rattle.std.proofs.Common.{◌≡◌, length}
 use Rattle.automaton.specs.Runs.{Dfa}
 use Rattle.forest.specs.Deferment.{Trees, kruskal, pairs_of}
 use Rattle.forest.specs.Joining.{Sized, Tracks, Shares}

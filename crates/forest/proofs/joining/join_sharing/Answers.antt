@@ -1,5 +1,4 @@
-use Rattle.std.proofs.Common.{◌≡◌, ℕ, ◌+◌, List, length, sym, refl, ap, ◌∙◌, subst, arith}
-use Rattle.automaton.specs.Runs.{Dfa}
+use Rattle.std.proofs.Common.{◌≡◌, ℕ, length, sym, ap, ◌∙◌, subst, arith}
 use Rattle.forest.specs.Deferment.{Trees, kruskal, pairs_of, pairs_below}
 use Rattle.forest.specs.Joining.{Tracks, Shares}
 use Rattle.forest.proofs.Slots.{rows_more}
@@ -10,14 +9,14 @@ loop-s-preserved c =
     let s = c.loop-s.s in
     let long = c.loop-s.invariant.0 in
     let counts = c.args.counts.now in (
-      c.join-row.auto.tree ∙ long,
-      c.join-row.ensures.sized,
+      c.join_row.auto.tree ∙ long,
+      c.join_row.ensures.sized,
       λ a shares f tracks.
           let here : Shares a counts (length c.loop-s.tree) = subst (Shares a counts) (sym long) shares in
           let same : length c.loop-s.tree ≡ a.states = sym here.states in
-          subst (λ (g : Trees). Tracks g c.join-row.new.tree c.join-row.new.pairs c.join-row.new.joined)
+          subst (λ (g : Trees). Tracks g c.join_row.new.tree c.join_row.new.pairs c.join_row.new.joined)
           (ap (λ (n : ℕ). kruskal (kruskal f (pairs_below a c.args.shared s)) (pairs_of a c.args.shared s n)) same ∙ sym (rows_more a f c.args.shared s))
-          (c.join-row.ensures.turns a here (kruskal f (pairs_below a c.args.shared s)) (c.loop-s.invariant.2 a shares f tracks)),
+          (c.join_row.ensures.turns a here (kruskal f (pairs_below a c.args.shared s)) (c.loop-s.invariant.2 a shares f tracks)),
     )
 
 pub returns : goal.returns

@@ -4,5 +4,5 @@ use Rattle.forest.proofs.placing.place_roots.Given as goal
 
 abbrev pub invariant-loop-s : goal.invariant-loop-s
 invariant-loop-s l =
-    ((k : ℕ) → k < l.s → get_or l.depths k 0 ≡ cond (root_in l.tree l.loop-counts k) 0 (length l.tree))
+    ((k : ℕ) → k < l.s → get_or l.depths k 0 ≡ cond (root_in l.tree l.loop_counts k) 0 (length l.tree))
     × ((k : ℕ) → k < l.s → get_or l.parents k None ≡ None)

@@ -5,4 +5,4 @@ use Rattle.forest.proofs.sharing.count_loops.Given as goal
 
 -- the states below s are counted
 abbrev pub invariant-loop-s : goal.invariant-loop-s
-invariant-loop-s l = (k : ℕ) → k < l.s → get_or l.loop-counts k 0 ≡ loops (dfa (handed l.automaton)) k
+invariant-loop-s l = (k : ℕ) → k < l.s → get_or l.loop_counts k 0 ≡ loops (dfa (handed l.automaton)) k

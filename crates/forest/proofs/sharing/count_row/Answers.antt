@@ -1,4 +1,4 @@
-use Rattle.std.proofs.Common.{◌≡◌, ℕ, ◌+◌, ◌*◌, ◌<◌, length, get_or, set, sym, ap, ◌∙◌, subst, inl, inr, arith}
+use Rattle.std.proofs.Common.{◌≡◌, ℕ, ◌+◌, ◌*◌, get_or, set, sym, ◌∙◌, subst, inl, inr, arith}
 use Rattle.std.proofs.lemmas.Nat.{mul-add-lt}
 use Rattle.std.proofs.lemmas.Bool.{cases_eq}
 use Rattle.automaton.specs.Limits.{handed, dfa}
@@ -16,13 +16,13 @@ loop-t-preserved c before =
     let s = c.args.s in
     let t = c.loop-t.t in
     let counts = c.loop-t.counts in
-    let v = c.shared-bytes.result in
+    let v = c.shared_bytes.result in
     let held = c.loop-t.invariant before in (
       λ u r hu low high. other_place counts n u r s t v high c.loop-t-test.true (λ e f. omega arith) ∙ held.0 u r hu low high,
       λ r low high. elim (cases_eq r t) [
         | inl e ↦
             subst (λ (k : ℕ). get_or (set counts (s * n + t) v) (s * n + k) 0 ≡ shared a s k) (sym e)
-            (same_place counts n s t v c.requires.inside c.loop-t-test.true (omega (arith, c.requires.room)) ∙ c.shared-bytes.ensures)
+            (same_place counts n s t v c.requires.inside c.loop-t-test.true (omega (arith, c.requires.room)) ∙ c.shared_bytes.ensures)
         | inr ne ↦ other_place counts n s r s t v (omega arith) c.loop-t-test.true (λ e f. ne f) ∙ held.1 r low (omega arith)
       ],
     )

@@ -5,4 +5,4 @@ use Rattle.image.proofs.writer.put.Goals as goal
 pub returns : goal.returns
 returns c =
     put_mid-written c.args.out.now _ c.args.field.now c.args.at
-    (c.args.at + length c.args.field.now - c.args.at) c.copy-from-slice.ensures.after (omega arith)
+    (c.args.at + length c.args.field.now - c.args.at) c.copy_from_slice.ensures.after (omega arith)

@@ -1,4 +1,4 @@
-use Rattle.std.proofs.Common.{◌-◌, ◌<◌, get_or, refl, arith}
+use Rattle.std.proofs.Common.{◌<◌, get_or, refl, arith}
 use Rattle.prefix.specs.Listed.{word_for, words_under, words_at}
 use Rattle.prefix.specs.States.{numbers, flags}
 use Rattle.prefix.proofs.Emitting.{emitted_two, emitted_three, length_two, length_three, value_below, read_within, opened}
@@ -39,16 +39,16 @@ returns-then-node t c =
     let forked = o.split c.if-node.true in
     emitted_two _ _ _ _ _ _ (words_at row deferrable n.low) (words_at row deferrable n.high) _ forked c.emit-middle.ensures c.emit.ensures
 
-pub overflow-cast-covering : goal.overflow-cast-covering
-overflow-cast-covering t c =
+pub overflow_cast-covering : goal.overflow_cast-covering
+overflow_cast-covering t c =
     let row = numbers c.args.row.now in
     let deferrable = flags c.args.deferrable.now in
     let n = c.read-node.result in
     let o = opened row deferrable c.args.work.now c.args.place (omega arith) c.requires.stands c.requires.inside.1 n c.read-node.ensures in
     record { fits = o.fits c.fits-row }
 
-pub emit-under-half-requires : goal.emit-under-half-requires
-emit-under-half-requires t c =
+pub emit_under-half-requires : goal.emit_under-half-requires
+emit_under-half-requires t c =
     let row = numbers c.args.row.now in
     let deferrable = flags c.args.deferrable.now in
     let n = c.read-node.result in
@@ -58,8 +58,8 @@ emit-under-half-requires t c =
     let size = length_three (words_under row deferrable n.low b) (words_under row deferrable n.high b) _ (word_for c.args.place b) closed in
     record { inside = (omega (arith, o.longer_low), o.longer_low.1); stands = o.stands_low; room = omega (arith, size, c.requires.room) }
 
-pub emit-under-whole-requires : goal.emit-under-whole-requires
-emit-under-whole-requires t c =
+pub emit_under-whole-requires : goal.emit_under-whole-requires
+emit_under-whole-requires t c =
     let row = numbers c.args.row.now in
     let deferrable = flags c.args.deferrable.now in
     let n = c.read-node.result in
@@ -67,7 +67,7 @@ emit-under-whole-requires t c =
     let b = get_or c.args.work.now c.read-node.result.candidates.first 0 in
     let closed = o.close b refl c.if-node.false in
     let size = length_three (words_under row deferrable n.low b) (words_under row deferrable n.high b) _ (word_for c.args.place b) closed in
-    record { inside = (omega (arith, o.longer_high), o.longer_high.1); stands = o.stands_high; room = omega (arith, size, c.requires.room, c.emit-under-half.ensures.counted) }
+    record { inside = (omega (arith, o.longer_high), o.longer_high.1); stands = o.stands_high; room = omega (arith, size, c.requires.room, c.emit_under-half.ensures.counted) }
 
 pub push-requires-2 : goal.push-requires-2
 push-requires-2 t c =
@@ -78,7 +78,7 @@ push-requires-2 t c =
     let b = get_or c.args.work.now c.read-node.result.candidates.first 0 in
     let closed = o.close b refl c.if-node.false in
     let size = length_three (words_under row deferrable n.low b) (words_under row deferrable n.high b) _ (word_for c.args.place b) closed in
-    omega (arith, size, c.requires.room, c.emit-under-half.ensures.counted, c.emit-under-whole.ensures.counted)
+    omega (arith, size, c.requires.room, c.emit_under-half.ensures.counted, c.emit_under-whole.ensures.counted)
 
 pub returns : goal.returns
 returns t c =
@@ -88,4 +88,4 @@ returns t c =
     let o = opened row deferrable c.args.work.now c.args.place (omega arith) c.requires.stands c.requires.inside.1 n c.read-node.ensures in
     let b = get_or c.args.work.now c.read-node.result.candidates.first 0 in
     let closed = o.close b refl c.if-node.false in
-    emitted_three _ _ _ _ _ _ _ _ (words_under row deferrable n.low b) (words_under row deferrable n.high b) _ (word_for c.args.place b) closed c.emit-under-half.ensures c.emit-under-whole.ensures c.push-2.ensures
+    emitted_three _ _ _ _ _ _ _ _ (words_under row deferrable n.low b) (words_under row deferrable n.high b) _ (word_for c.args.place b) closed c.emit_under-half.ensures c.emit_under-whole.ensures c.push-2.ensures

@@ -7,9 +7,9 @@ use Rattle.printed.proofs.plans.plan_text.Goals as goal
 pub loop-s-preserved : goal.loop-s-preserved
 loop-s-preserved c a of =
     let f = forest_of a in
-    let line = c.in-ok-placed-line.ensures a of (omega (arith, of.0, c.states-s-end.ensures)) in
-    states_more f c.loop-s.s (ended (width_text f.width)) (string_bytes c.loop-s.text) c.as-str.result.now (string_bytes c.push-str.new.self)
-    (c.loop-s.invariant a of) (c.as-str.ensures.value ∙ line) c.in-ok-push-str.ensures.bytes
+    let line = c.in_ok-placed_line.ensures a of (omega (arith, of.0, c.states-s-end.ensures)) in
+    states_more f c.loop-s.s (ended (width_text f.width)) (string_bytes c.loop-s.text) c.as_str.result.now (string_bytes c.push_str.new.self)
+    (c.loop-s.invariant a of) (c.as_str.ensures.value ∙ line) c.in_ok-push_str.ensures.bytes
 
 pub returns : goal.returns
 returns c a of =

@@ -7,7 +7,7 @@ use Rattle.table.proofs.check.first_wrong.Goals as goal
 pub loop-state-preserved : goal.loop-state-preserved
 loop-state-preserved c =
     below_more (λ s. (b : ℕ) → b < 256 → Right (dfa (handed c.args.automaton)) (listed c.args.codes.now) c.args.entries.now s b)
-    _ c.loop-state.invariant c.in-default.ensures
+    _ c.loop-state.invariant c.in_default.ensures
 
 pub returns-in-Some : goal.returns-in-Some
 returns-in-Some c =

@@ -13,4 +13,4 @@ pub loop-code-preserved : goal.loop-code-preserved
 loop-code-preserved c = copied_more (parts_of c.args.image).codes c.loop-code.codes c.loop-code.state 512 c.in-Some.code c.requires c.loop-code.invariant c.in-Some.ensures
 
 pub returns : goal.returns
-returns c = copied_all (parts_of c.args.image).codes c.loop-code.codes c.loop-code.state 512 c.loop-code.invariant c.in-default.ensures
+returns c = copied_all (parts_of c.args.image).codes c.loop-code.codes c.loop-code.state 512 c.loop-code.invariant c.in_default.ensures

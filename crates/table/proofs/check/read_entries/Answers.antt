@@ -13,4 +13,4 @@ pub loop-entry-preserved : goal.loop-entry-preserved
 loop-entry-preserved c = copied_more (parts_of c.args.image).entries c.loop-entry.entries c.loop-entry.index 4096 c.in-Some.entry c.requires c.loop-entry.invariant c.in-Some.ensures
 
 pub returns : goal.returns
-returns c = copied_all (parts_of c.args.image).entries c.loop-entry.entries c.loop-entry.index 4096 c.loop-entry.invariant c.in-default.ensures
+returns c = copied_all (parts_of c.args.image).entries c.loop-entry.entries c.loop-entry.index 4096 c.loop-entry.invariant c.in_default.ensures

@@ -9,7 +9,7 @@ pub returns : goal.returns
 returns c =
     let rest = c.args.rest.now in
     let ranges = take_rest rest 5 in
-    let len = c.from-be-bytes-len.ensures in
-    c.ranges-fault.ensures
+    let len = c.from_be_bytes-len.ensures in
+    c.ranges_fault.ensures
     ∙ ((λ i. each_fault (range_fault c.args.states) 4 (c.args.at + 5) (ranges_in (ranges i) (len i / 4)))
     ∙ sym (record_ranges c.args.states c.args.at rest (omega arith) (sym (ap (λ (k : ℕ). k % 4) len) ∙ c.if-len-ne3.false) (omega arith)))

@@ -1,10 +1,10 @@
-use Rattle.std.proofs.Common.{◌≡◌, ℕ, ◌+◌, ◌-◌, ◌*◌, ◌<◌, List, [], ◌∷◌, length, take, drop, sym, refl, ap, ◌∙◌, subst, one-mul, zero-add, arith, length-drop, length-take}
+use Rattle.std.proofs.Common.{◌≡◌, ℕ, ◌+◌, ◌-◌, ◌*◌, ◌<◌, List, [], ◌∷◌, length, drop, sym, refl, ap, ◌∙◌, subst, one-mul, zero-add, arith, length-drop, length-take}
 use Rattle.std.proofs.lemmas.List.FromFn.{length-map-range_with_len}
 use Rattle.fields.specs.Fields.{written}
 use Rattle.std.proofs.lemmas.List.{take_rest}
-use Rattle.automaton.specs.File.{StateRecord, row_of, class_of, next_by, record_in, records_in, record_size}
+use Rattle.automaton.specs.File.{StateRecord, row_of, class_of, next_by, record_in, records_in}
 use Rattle.automaton.proofs.Records.{Whole, AllWhole, all_whole, first_whole, first_record, length-records_in, mark_of}
-use Rattle.fields.proofs.Writes.{turn, turned, written_none, set-written, put_mid-written, joined_one}
+use Rattle.fields.proofs.Writes.{turn, turned, set-written, put_mid-written, joined_one}
 use Rattle.automaton.proofs.file.fill.fill.Goals as goal
 
 pub loop-state-init : goal.loop-state-init
@@ -23,20 +23,20 @@ loop-state-init c =
 here : (n k : ℕ) (rest : List ℕ) → k < n → AllWhole n (n - k) rest → Whole n rest
 here n k rest h all = (first_whole n (n - k) (n - (k + 1)) rest (omega arith) all).0
 
-pub fill-state-class-requires : goal.fill-state-class-requires
-fill-state-class-requires c =
+pub fill_state-class-requires : goal.fill_state-class-requires
+fill_state-class-requires c =
     let good = here c.args.states c.loop-state.state c.loop-state.rest.now c.loop-state-test.true c.loop-state.invariant.0 in
     record { within = good.within; four = good.four; places = simp (length-take, length-drop) (omega arith) }
 
-pub slice-bounds-rest-count : goal.slice-bounds-rest-count
-slice-bounds-rest-count c =
+pub slice_bounds-rest-count : goal.slice_bounds-rest-count
+slice_bounds-rest-count c =
     let good = here c.args.states c.loop-state.state c.loop-state.rest.now c.loop-state-test.true c.loop-state.invariant.0 in
-    omega (arith, good.within, c.record-size-size.ensures)
+    omega (arith, good.within, c.record_size-size.ensures)
 
-pub slice-bounds-rest-start : goal.slice-bounds-rest-start
-slice-bounds-rest-start c =
+pub slice_bounds-rest-start : goal.slice_bounds-rest-start
+slice_bounds-rest-start c =
     let good = here c.args.states c.loop-state.state c.loop-state.rest.now c.loop-state-test.true c.loop-state.invariant.0 in
-    omega (arith, good.within, c.record-size-size.ensures)
+    omega (arith, good.within, c.record_size-size.ensures)
 
 long-row : (s : StateRecord) → length (row_of s) ≡ 256
 long-row s = length-map-range_with_len (next_by s.ranges s.default) 0 256
@@ -49,13 +49,13 @@ loop-state-preserved c =
     let all : List StateRecord = records_in n c.args.records.now in
     let long : length all ≡ n = length-records_in n c.args.records.now in
     let inside : k < length all = omega (arith, long) in
-    let size : ℕ = c.record-size-size.result in
-    let left = take_rest rest size ∙ ap (λ (w : ℕ). drop w rest) c.record-size-size.ensures in
+    let size : ℕ = c.record_size-size.result in
+    let left = take_rest rest size ∙ ap (λ (w : ℕ). drop w rest) c.record_size-size.ensures in
     let good = first_whole n (n - k) (n - (k + 1)) rest (omega arith) c.loop-state.invariant.0 in
     let this = first_record (n - k) (n - (k + 1)) k rest all (omega arith) inside c.loop-state.invariant.1 in
-    let row = c.fill-state-class.new.row in
-    let row_is = c.fill-state-class.ensures.row in
-    let class = c.fill-state-class.result in
+    let row = c.fill_state-class.new.row in
+    let row_is = c.fill_state-class.ensures.row in
+    let class = c.fill_state-class.result in
     let was = c.loop-state.successors in
     let marks = c.loop-state.classes in (
       subst (λ (l : List ℕ). AllWhole n (n - (k + 1)) l) (sym left) good.1,
@@ -65,7 +65,7 @@ loop-state-preserved c =
           (put_mid-written was row row (256 * k) (256 * k + 256 - 256 * k) refl (omega (arith, ap length row_is, long-row (record_in rest)))
           ∙ ap (λ (a : ℕ). written was a row) (sym (zero-add (256 * k)))),
       turn mark_of 1 (λ _. refl) c.args.classes.now marks _ (class ∷ []) all 0 k (record_in rest) inside (omega arith) c.loop-state.invariant.3
-          (ap (λ (v : ℕ). v ∷ []) c.fill-state-class.ensures.class ∙ ap mark_of (sym this.0))
+          (ap (λ (v : ℕ). v ∷ []) c.fill_state-class.ensures.class ∙ ap mark_of (sym this.0))
           (set-written marks k class (omega arith) ∙ ap (λ (a : ℕ). written marks a (class ∷ [])) (sym (zero-add (1 * k) ∙ one-mul k))),
     )
 

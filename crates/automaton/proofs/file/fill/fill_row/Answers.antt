@@ -6,8 +6,8 @@ use Rattle.automaton.proofs.file.fill.fill_row.Goals as goal
 
 pub loop-byte-preserved : goal.loop-byte-preserved
 loop-byte-preserved c =
-    fill_turn (next_by (ranges_in c.args.ranges.now c.args.count) c.args.default) c.loop-byte.row c.loop-byte.byte c.next-by.result (state_no 0)
-    c.next-by.ensures (omega arith) c.loop-byte.invariant
+    fill_turn (next_by (ranges_in c.args.ranges.now c.args.count) c.args.default) c.loop-byte.row c.loop-byte.byte c.next_by.result (state_no 0)
+    c.next_by.ensures (omega arith) c.loop-byte.invariant
 
 pub returns : goal.returns
 returns c =

@@ -8,15 +8,15 @@ use Rattle.column.proofs.columns.ColumnCardCard.append.Goals as goal
 pub returns : goal.returns
 returns c =
     let ws = c.args.self.now.words.now in
-    let after = c.write-entry.new.words in
+    let after = c.write_entry.new.words in
     let ds = c.args.self.now.decisions.now in
     let n = c.args.self.now.used in
     let e = c.args.e in
     let d : Decision = (c.next.result, c.class.result) in
     let decided : d ≡ decision e = λ i. (c.next.ensures i, c.class.ensures i) in
     let fits : n < room ws ds = omega arith in
-    let kept : room after (set ds n d) ≡ room ws ds = room-same ws after ds (set ds n d) c.write-entry.auto.words (length-set ds n d) in
-    let written = c.write-entry.ensures in
+    let kept : room after (set ds n d) ≡ room ws ds = room-same ws after ds (set ds n d) c.write_entry.auto.words (length-set ds n d) in
+    let written = c.write_entry.ensures in
     record {
       cases = added_behind ws after ds n e d decided written.kept written.code written.byte (omega arith) (omega arith) (omega arith) (omega arith) fits kept;
       same_size = kept;

@@ -8,14 +8,14 @@ pub returns : goal.returns
 returns c =
     let ws = c.args.self.now.words.now in
     let ds = c.args.self.now.decisions.now in
-    let found = c.in-ok-index.ensures in
-    sym (some_first ws ds c.count.result c.args.code.0 c.args.byte (omega arith) (omega arith) c.in-ok-index.index found.0 found.1 found.2)
+    let found = c.in_ok-index.ensures in
+    sym (some_first ws ds c.count.result c.args.code.0 c.args.byte (omega arith) (omega arith) c.in_ok-index.index found.0 found.1 found.2)
     ∙ ap (λ (n : ℕ). first (entries_of ws ds n) c.args.code.0 c.args.byte) c.count.ensures
 
-pub returns-in-err-index : goal.returns-in-err-index
-returns-in-err-index c =
+pub returns-in_err-index : goal.returns-in_err-index
+returns-in_err-index c =
     let ws = c.args.self.now.words.now in
     let ds = c.args.self.now.decisions.now in
-    c.from-residual.ensures
-    ∙ (sym (none_first ws ds c.count.result c.args.code.0 c.args.byte (omega arith) (omega arith) c.in-err-index.ensures)
+    c.from_residual.ensures
+    ∙ (sym (none_first ws ds c.count.result c.args.code.0 c.args.byte (omega arith) (omega arith) c.in_err-index.ensures)
     ∙ ap (λ (n : ℕ). first (entries_of ws ds n) c.args.code.0 c.args.byte) c.count.ensures)

@@ -1,4 +1,4 @@
-use Rattle.std.proofs.Common.{◌≡◌, length, refl, arith}
+use Rattle.std.proofs.Common.{refl, arith}
 use Rattle.automaton.specs.Limits.{handed, dfa}
 use Rattle.forest.specs.Deferment.{forest_of}
 use Rattle.forest.proofs.Accept.{shadows_stand}
@@ -9,10 +9,10 @@ use Rattle.forest.proofs.plan.Plan.of.Goals as goal
 pub returns : goal.returns
 returns c =
     let a = dfa (handed c.args.automaton) in
-    let w = c.plan-in-width in
+    let w = c.plan_in-width in
     record {
       answer = (
-        c.in-ok-limits.ensures,
+        c.in_ok-limits.ensures,
         omega arith,
         (refl, planned_front a w.result w.new.parents _ w.new.depths _ w.new.codes _ w.new.masks _ (omega arith) (omega arith) (omega arith) (omega arith) w.ensures),
       );

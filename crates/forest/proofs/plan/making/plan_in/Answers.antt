@@ -1,12 +1,12 @@
-use Rattle.std.proofs.Common.{◌≡◌, length, sym, refl, ap, ◌∙◌, subst, arith}
+use Rattle.std.proofs.Common.{arith}
 use Rattle.automaton.specs.Limits.{handed, dfa}
 use Rattle.forest.proofs.Agree.{arrays_stand}
 use Rattle.forest.specs.Codes.{forest_in}
 use Rattle.forest.proofs.Plans.{fits, planned_joined, falls_back, planned_loose, loose_fits}
 use Rattle.forest.proofs.plan.making.plan_in.Goals as goal
 
-pub codes-of-requires : goal.codes-of-requires
-codes-of-requires c =
+pub codes_of-requires : goal.codes_of-requires
+codes_of-requires c =
     let a = dfa (handed c.args.automaton) in
     record {
       few = omega (arith, c.defer.ensures.size);
@@ -20,10 +20,10 @@ returns-in-Some c =
     let a = dfa (handed c.args.automaton) in
     let told = c.in-Some.ensures in
     let small = fits (forest_in c.defer.new.parents c.defer.new.depths) c.in-Some.width told.width in
-    planned_joined a c.defer.new.parents c.defer.new.depths c.defer.ensures c.codes-of.new.codes c.codes-of.new.masks (λ s h. (told.codes small s h, told.masks small s h)) c.in-Some.width c.in-Some.ensures.width
+    planned_joined a c.defer.new.parents c.defer.new.depths c.defer.ensures c.codes_of.new.codes c.codes_of.new.masks (λ s h. (told.codes small s h, told.masks small s h)) c.in-Some.width c.in-Some.ensures.width
 
-pub codes-of-requires-2 : goal.codes-of-requires-2
-codes-of-requires-2 c =
+pub codes_of-requires-2 : goal.codes_of-requires-2
+codes_of-requires-2 c =
     let a = dfa (handed c.args.automaton) in
     let loose = c.loosen.ensures a (omega arith) in
     record {
@@ -36,14 +36,14 @@ codes-of-requires-2 c =
 pub unreachable-requires : goal.unreachable-requires
 unreachable-requires c =
     let a = dfa (handed c.args.automaton) in
-    let is = falls_back a c.defer.new.parents c.defer.new.depths c.defer.ensures c.in-default.ensures.width in
+    let is = falls_back a c.defer.new.parents c.defer.new.depths c.defer.ensures c.in_default.ensures.width in
     loose_fits a c.loosen.new.parents c.loosen.new.depths is (c.loosen.ensures a (omega arith)) (omega arith) c.in-None.ensures.width
 
 pub returns : goal.returns
 returns c =
     let a = dfa (handed c.args.automaton) in
-    let is = falls_back a c.defer.new.parents c.defer.new.depths c.defer.ensures c.in-default.ensures.width in
-    let told = c.in-Some-codes-of.ensures in
-    let small = fits (forest_in c.loosen.new.parents c.loosen.new.depths) c.in-Some-codes-of.width told.width in
-    planned_loose a c.loosen.new.parents c.loosen.new.depths is (c.loosen.ensures a (omega arith)) c.codes-of-2.new.codes c.codes-of-2.new.masks
-    (λ s h. (told.codes small s h, told.masks small s h)) c.in-Some-codes-of.width c.in-Some-codes-of.ensures.width
+    let is = falls_back a c.defer.new.parents c.defer.new.depths c.defer.ensures c.in_default.ensures.width in
+    let told = c.in-Some-codes_of.ensures in
+    let small = fits (forest_in c.loosen.new.parents c.loosen.new.depths) c.in-Some-codes_of.width told.width in
+    planned_loose a c.loosen.new.parents c.loosen.new.depths is (c.loosen.ensures a (omega arith)) c.codes_of-2.new.codes c.codes_of-2.new.masks
+    (λ s h. (told.codes small s h, told.masks small s h)) c.in-Some-codes_of.width c.in-Some-codes_of.ensures.width

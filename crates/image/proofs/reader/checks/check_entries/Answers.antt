@@ -6,11 +6,11 @@ use Rattle.image.specs.Rules.{raw_fault}
 use Rattle.image.proofs.Verdicts.{passed_none, stopped_at}
 use Rattle.image.proofs.reader.checks.check_entries.Goals as goal
 
-pub returns-in-err-check : goal.returns-in-err-check
-returns-in-err-check c =
+pub returns-in_err-check : goal.returns-in_err-check
+returns-in_err-check c =
     let at = 12 + 2 * c.args.states + 9 * c.loop-index.index in
     let fault = raw_fault c.args.limit at c.read.result in
-    stopped_at c.from-residual.result _ _ _ fault c.from-residual.ensures.1 c.in-err-check.ensures c.loop-index.invariant
+    stopped_at c.from_residual.result _ _ _ fault c.from_residual.ensures.1 c.in_err-check.ensures c.loop-index.invariant
     (each_found (raw_fault c.args.limit) 9 (raw_at c.args.bytes.now c.args.states) c.args.entries at (at + 9) c.loop-index.index c.loop-index-test.true (omega arith)
     fault (ap (raw_fault c.args.limit at) c.read.ensures))
 
@@ -20,7 +20,7 @@ loop-index-preserved c =
     let fault = raw_fault c.args.limit at c.read.result in
     c.loop-index.invariant ∙
     each_more (raw_fault c.args.limit) 9 (raw_at c.args.bytes.now c.args.states) c.args.entries at (12 + 2 * c.args.states + 9 * (c.loop-index.index + 1)) c.loop-index.index c.loop-index-test.true (omega arith)
-    fault (ap (raw_fault c.args.limit at) c.read.ensures) (ap is_some (passed_none fault _ c.in-ok-check.ensures))
+    fault (ap (raw_fault c.args.limit at) c.read.ensures) (ap is_some (passed_none fault _ c.in_ok-check.ensures))
 
 pub returns : goal.returns
 returns c =

@@ -9,24 +9,24 @@ use Rattle.scanner.proofs.Entering.{exceeds, start_coded, entered}
 use Rattle.scanner.proofs.Turns.{load_declines, load_enters}
 use Rattle.scanner.proofs.scanner.Scanner.load.Goals as goal
 
-pub returns-in-err-check : goal.returns-in-err-check
-returns-in-err-check g c =
-    let p = err_from_is_err_and c.from-residual.result c.from-residual.ensures.1 in
+pub returns-in_err-check : goal.returns-in_err-check
+returns-in_err-check g c =
+    let p = err_from_is_err_and c.from_residual.result c.from_residual.ensures.1 in
     let err = p.1 ∙ ap Err p.2 in
     let s = seen g.C.Card.entries g.C.Card.size c.args.self.now in
     let a = handed c.args.automaton in
-    let why = unchecked c.in-err-check.ensures.answer in
+    let why = unchecked c.in_err-check.ensures.answer in
     record {
       refused = λ e. refl;
       answer = subst (LoadAnswer a c.args.image.now s s) (sym err) why;
-      keeps = load_declines s a c.args.image.now c.from-residual.result _ err why;
+      keeps = load_declines s a c.args.image.now c.from_residual.result _ err why;
     }
 
 pub returns-then-header-capacity : goal.returns-then-header-capacity
 returns-then-header-capacity g c =
     let s = seen g.C.Card.entries g.C.Card.size c.args.self.now in
     let a = handed c.args.automaton in
-    let why = exceeds a c.args.image.now c.in-ok-image.image c.in-ok-check.ensures.answer c.in-ok-image.ensures c.header.result c.header.ensures s c.capacity.result c.capacity.ensures c.if-header-capacity.true in
+    let why = exceeds a c.args.image.now c.in_ok-image.image c.in_ok-check.ensures.answer c.in_ok-image.ensures c.header.result c.header.ensures s c.capacity.result c.capacity.ensures c.if-header-capacity.true in
     record {
       refused = λ e. refl;
       answer = why;
@@ -35,13 +35,13 @@ returns-then-header-capacity g c =
 
 pub unreachable-requires : goal.unreachable-requires
 unreachable-requires g c =
-    start_coded (handed c.args.automaton) c.args.image.now c.in-ok-image.image c.in-ok-check.ensures.answer c.in-ok-image.ensures c.header.result c.header.ensures (sym c.code.ensures ∙ c.in-default.is)
+    start_coded (handed c.args.automaton) c.args.image.now c.in_ok-image.image c.in_ok-check.ensures.answer c.in_ok-image.ensures c.header.result c.header.ensures (sym c.code.ensures ∙ c.in_default.is)
 
 pub returns : goal.returns
 returns g c =
     let before = seen g.C.Card.entries g.C.Card.size c.args.self.now in
     let a = handed c.args.automaton in
-    let done = entered a c.args.image.now c.in-ok-image.image c.in-ok-check.ensures.answer c.in-ok-image.ensures c.header.result c.header.ensures
+    let done = entered a c.args.image.now c.in_ok-image.image c.in_ok-check.ensures.answer c.in_ok-image.ensures c.header.result c.header.ensures
     before _ c.capacity.result c.in-Some.start c.capacity.ensures c.if-header-capacity.false (sym c.code.ensures ∙ c.in-Some.is) c.fill.ensures.listed c.fill.ensures.capacity refl in
     record {
       refused = λ e. absurd (false≢true e);

@@ -4,13 +4,13 @@ use Rattle.scanner.specs.Scanners.{seen}
 use Rattle.scanner.proofs.Turns.{restart_unloaded, restart_loaded, restart_declines, restart_drops}
 use Rattle.scanner.proofs.scanner.Scanner.restart.Goals as goal
 
-pub returns-in-default : goal.returns-in-default
-returns-in-default g c =
+pub returns-in_default : goal.returns-in_default
+returns-in_default g c =
     record {
       card = refl;
       refused = λ e. refl;
-      answer = restart_unloaded c.args.self.now.position c.in-default.is;
-      keeps = restart_declines (seen g.C.Card.entries g.C.Card.size c.args.self.now) c.in-default.is;
+      answer = restart_unloaded c.args.self.now.position c.in_default.is;
+      keeps = restart_declines (seen g.C.Card.entries g.C.Card.size c.args.self.now) c.in_default.is;
     }
 
 pub returns : goal.returns
