@@ -7,15 +7,15 @@ ghost use Rattle.fields.specs.Fields.{word};
 pub fn byte_at(bytes: &[u8], at: usize) -> u8
     ensures { result ≡ slice_index bytes.now at }
 {
-    if at < bytes.len() { bytes[at] } else { 0 }
+    bytes.get(at).copied().unwrap_or(0)
 }
 
 // The number in the two bytes at `at`, the high one first; a byte past the end counts as 0.
 pub fn word_at(bytes: &[u8], at: usize) -> u16
     ensures { result ≡ word bytes.now at }
 {
-    if at >= bytes.len() {
-        return 0;
+    match bytes.get(at) {
+        Some(high) => u16::from_be_bytes([*high, byte_at(bytes, at + 1)]),
+        None => 0,
     }
-    u16::from_be_bytes([bytes[at], byte_at(bytes, at + 1)])
 }

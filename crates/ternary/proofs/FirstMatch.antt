@@ -1,7 +1,8 @@
 -- Laws of the first match: of one entry, from a place on, over a list cut in two, and where none matches.
-use Rattle.std.proofs.Common.{◌≡◌, ℕ, ◌+◌, ◌<◌, ◌≤◌, Bool, true, false, eqb, List, [], ◌∷◌, ◌++◌, length, get_or, drop, Some, None, Decides, Option, sym, refl, ap, ◌∙◌}
+use Rattle.std.proofs.Common.{◌≡◌, ℕ, Bool, true, false, cond, eqb, List, [], ◌∷◌, ◌++◌, Some, None, Decides, Option, refl, ap, ◌∙◌}
 use lib.Bits.{bit_and}
-use Rattle.std.proofs.lemmas.List.{at_drop_more, at_drop_all}
+use Rattle.std.specs.List.{find}
+use Rattle.std.specs.Option.{option_map}
 use Rattle.std.proofs.lemmas.Bool.Decides.{Decides-and, not_from_Decides}
 use Rattle.ternary.specs.declared.entry.Entry.{Entry}
 use Rattle.ternary.specs.Match.{Matches, Decision, decision, NoneMatch, IsFirst, matches, pick, first}
@@ -14,22 +15,12 @@ matches_decides e code byte =
     (masked_agrees e.code_value e.code_mask code e.code_clear)
     (masked_agrees e.byte_value e.byte_mask byte e.byte_clear)
 
--- the first match from place i on, by the entry e that stands there
-module _ (es : List Entry) (code byte i : ℕ) (e : Entry) (within : i < length es) (there : e ≡ get_or es i e) where
-  first_from : first (drop i es) code byte ≡ pick (matches e code byte) e (first (drop (i + 1) es) code byte)
-  first_from =
-      at_drop_more (λ xs. first xs code byte) es i e within
-      ∙ ap (λ (x : Entry). pick (matches x code byte) x (first (drop (i + 1) es) code byte)) (sym there)
-
-  pub first_here : matches e code byte ≡ true → first (drop i es) code byte ≡ Some (decision e)
-  first_here m = first_from ∙ ap (λ t. pick t e (first (drop (i + 1) es) code byte)) m
-
-  pub first_later : matches e code byte ≡ false → first (drop i es) code byte ≡ first (drop (i + 1) es) code byte
-  first_later m = first_from ∙ ap (λ t. pick t e (first (drop (i + 1) es) code byte)) m
-
--- past the last entry
-pub first_past : (es : List Entry) (code byte i : ℕ) → length es ≤ i → first (drop i es) code byte ≡ None
-first_past es code byte i h = at_drop_all (λ xs. first xs code byte) es i h
+-- what the first match decides, as a search that ends at the first entry that passes the test
+pub first_found : (es : List Entry) (code byte : ℕ) → option_map decision (find (λ e. matches e code byte) es) ≡ first es code byte
+first_found [] code byte = refl
+first_found (e ∷ es) code byte =
+    elim (matches e code byte) as (λ m. option_map decision (cond m (Some e) (find (λ x. matches x code byte) es)) ≡ pick m e (first es code byte))
+    [ true ↦ refl | false ↦ first_found es code byte ]
 
 -- the first of two answers
 abbrev pub or_else : {X : Type 0} → Option X → Option X → Option X

@@ -1,5 +1,5 @@
 -- The numbers and values by which refusals are known outside. Assumes nothing.
-use Rattle.std.specs.Prelude.{◌≡◌, ℕ, cond, List, [], ◌∷◌, Some, None, Ok, Err, Option, Result}
+use Rattle.std.specs.Prelude.{◌≡◌, ℕ, cond, List, [], ◌∷◌, ◌++◌, codes, decimal, Some, None, Ok, Err, Option, Result}
 use Rattle.ternary.specs.declared.words.Progress.{Progress}
 use Rattle.ternary.specs.declared.refusal.Refusal.{Refusal}
 use Rattle.ternary.specs.declared.refusal.Refusal.TheVariants.{BadAutomaton, WorkTooShort, OutputTooShort, TooManyEntries, CardFull, CardTooSmall, NoEntry, NotLoaded, PieceTooLong, Malformed, Mismatch, WrongEntry}
@@ -65,3 +65,12 @@ refuse_or (Some at) answer = Err (Malformed at)
 -- the answer of a check: refused with the offset of its fault, or passed
 abbrev pub verdict : Option ℕ → Result (Unit {0}) Refusal
 verdict fault = refuse_or fault (Ok tt)
+
+-- a number, and an offset if there is one, as a refusal is printed
+abbrev pub number_text : ℕ → Option ℕ → List ℕ
+number_text n None = codes "refused " ++ decimal n
+number_text n (Some at) = codes "refused " ++ (decimal n ++ (codes " at " ++ decimal at))
+
+-- a refusal as it is printed
+abbrev pub refusal_text : Refusal → List ℕ
+refusal_text e = number_text (number e) (offset e)

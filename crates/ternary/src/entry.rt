@@ -88,6 +88,15 @@ impl Entry {
     }
 }
 
+// An entry with a star for every bit, which decides the code 0 without a mark: what an unused place holds.
+impl Default for Entry {
+    ghost is_default = { λ e. (e.code_mask ≡ 0) × (e.byte_mask ≡ 0) × (e.next.0 ≡ 0) × (e.class ≡ 0) };
+
+    fn default() -> Entry {
+        Entry::new(0, 0, 0, 0, StateCode(0), 0)
+    }
+}
+
 // A value without its bits under a star.
 fn cleared(value: u16, mask: u16) -> u16
     ensures value { result ≡ bit_and value mask }

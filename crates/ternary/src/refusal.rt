@@ -1,10 +1,12 @@
-ghost use Rattle.std.specs.Prelude.{◌≡◌};
-ghost use Rattle.ternary.specs.Refusals.{number, offset};
+ghost use Rattle.std.specs.Prelude.{◌≡◌, Some};
+ghost use Rattle.ternary.specs.Refusals.{number, offset, refusal_text};
 
 use crate::words::{Progress, StateNo};
+use std::error::Error;
+use std::fmt;
 
 // Why a call declines.
-#[derive(Clone, Copy, PartialEq, Eq, Debug)]
+#[derive(Clone, Copy, PartialEq, Eq, Debug, Drop)]
 pub enum Refusal {
     // The automaton breaks a limit or a buffer length.
     BadAutomaton,
@@ -63,3 +65,18 @@ impl Refusal {
         }
     }
 }
+
+// As a refusal is printed: its number, and the offset where a file or an image is malformed.
+impl fmt::Display for Refusal {
+    ghost output = { λ why. Some (refusal_text why) };
+
+    fn fmt<W: fmt::Write>(&self, f: &mut fmt::Formatter<W>) -> fmt::Result {
+        let number = self.number();
+        match self.offset() {
+            Some(at) => write!(f, "refused {number} at {at}"),
+            None => write!(f, "refused {number}"),
+        }
+    }
+}
+
+impl Error for Refusal {}

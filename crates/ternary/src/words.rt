@@ -1,13 +1,24 @@
+ghost use Rattle.std.specs.Prelude.{◌≡◌};
+
 // A state of an automaton, numbered from 0.
-#[derive(Clone, Copy, PartialEq, Eq, Debug)]
+#[derive(Clone, Copy, PartialEq, Eq, Default, Debug)]
 pub struct StateNo(pub u16);
 
+impl From<StateNo> for usize {
+    ghost from_gives = { λ state place. place ≡ state.0 };
+
+    // The place of a state in a list with one place a state.
+    fn from(state: StateNo) -> usize {
+        state.0 as usize
+    }
+}
+
 // The name by which a table knows a state. No function makes a state's code out of its number.
-#[derive(Clone, Copy, PartialEq, Eq, Debug)]
+#[derive(Clone, Copy, PartialEq, Eq, Default, Debug)]
 pub struct StateCode(pub u16);
 
 // A byte that led to a state of class 1 to 255: its place in its piece, and the class.
-#[derive(Clone, Copy, PartialEq, Eq, Debug)]
+#[derive(Clone, Copy, PartialEq, Eq, Default, Debug)]
 pub struct Mark {
     pub place: u16,
     pub class: u8,

@@ -1,5 +1,6 @@
 ghost use Rattle.std.specs.Prelude.{◌≡◌, Decides, ◌==◌, bit_and};
-ghost use Rattle.std.specs.Option.{option_map};
+ghost use Rattle.std.specs.Option.{option_copied};
+ghost use Rattle.std.specs.List.{find};
 ghost use Rattle.ternary.specs.Match.{Agrees, Matches, decision, matches, first, IsFirst};
 
 use crate::entry::Entry;
@@ -29,21 +30,12 @@ pub fn first_match(entries: &[Entry], code: StateCode, byte: u8) -> Option<(Stat
     ensures value { result ≡ first entries.now code.0 byte }
     ensures first { IsFirst entries.now code.0 byte result }
 {
-    match find(entries, code, byte) {
-        Some(e) => Some((e.next, e.class)),
-        None => None,
-    }
+    find(entries, code, byte).map(|e| (e.next, e.class))
 }
 
 // The first entry that matches.
 fn find(entries: &[Entry], code: StateCode, byte: u8) -> Option<&Entry>
-    ensures value { option_map (λ e. decision e.now) result ≡ first entries.now code.0 byte }
-    ensures first { IsFirst entries.now code.0 byte (option_map (λ e. decision e.now) result) }
+    ensures { option_copied result ≡ find (λ e. matches e code.0 byte) entries.now }
 {
-    for e in entries {
-        if e.matches(code, byte) {
-            return Some(e);
-        }
-    }
-    None
+    entries.iter().find(|e| e.matches(code, byte))
 }
