@@ -2,4 +2,5 @@
 
 pub mod file;
 pub mod limits;
+pub mod sound;
 pub mod words;

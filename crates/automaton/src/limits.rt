@@ -37,17 +37,8 @@ fn within(automaton: Automaton<'_>) -> bool
     if automaton.successors.len() != 256 * states || automaton.classes.len() != states {
         return false;
     }
-    all_below(automaton.successors, automaton.states)
-}
-
-// Whether all numbers are below the number of states.
-fn all_below(numbers: &[StateNo], states: u16) -> bool
-    ensures { Decides result (AllByRecursion (λ s. s.0 < states) numbers.now) }
-{
-    for number in numbers {
-        if number.0 >= states {
-            return false;
-        }
-    }
-    true
+    automaton
+        .successors
+        .iter()
+        .all(|next| next.0 < automaton.states)
 }

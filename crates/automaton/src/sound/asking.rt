@@ -1,0 +1,40 @@
+// What is asked of an automaton that keeps its limits.
+ghost use Rattle.std.specs.Prelude.{◌≡◌, ◌<◌};
+ghost use Rattle.automaton.specs.Sound.{meant};
+
+use crate::sound::SoundAutomaton;
+use ternary::words::StateNo;
+
+impl SoundAutomaton<'_> {
+    // How many states there are.
+    pub fn states(&self) -> u16
+        ensures { result ≡ (meant self.now).states }
+    {
+        self.automaton.states
+    }
+
+    // The start state.
+    pub fn start(&self) -> StateNo
+        ensures { result.0 ≡ (meant self.now).start }
+    {
+        self.automaton.start
+    }
+
+    // The successor of a state on a byte; state 0 for a number that no state has.
+    pub fn next(&self, state: StateNo, byte: u8) -> StateNo
+        ensures value { result.0 ≡ (meant self.now).next state.0 byte }
+        ensures below { result.0 < (meant self.now).states }
+    {
+        let place = 256 * usize::from(state) + byte as usize;
+        let successor = self.automaton.successors.get(place);
+        successor.copied().unwrap_or_default()
+    }
+
+    // The class of a state; no mark for a number that no state has.
+    pub fn class(&self, state: StateNo) -> u8
+        ensures { result ≡ (meant self.now).class state.0 }
+    {
+        let class = self.automaton.classes.get(usize::from(state));
+        class.copied().unwrap_or(0)
+    }
+}
