@@ -10,7 +10,7 @@ use Rattle.fields.specs.Fields.{word, long, be16, be32, or_else, check, each_fau
 use Rattle.automaton.specs.File.{state_no, StateRecord, Source, range_bytes, record_bytes, body, encode, range_at, ranges_in, record_size, record_in, records_in, decode, range_fault, length_fits, record_fault, records_fault, fault}
 use Rattle.automaton.specs.Laws.{RangeOk, RecordOk, SourceOk}
 use Rattle.fields.proofs.Bytes.{be16_read, be16_back, be32_read, be32_back, front, joined_made, byte_of_item}
-use Rattle.fields.proofs.Faults.{both_pass, check_pass, pass, last_fault, each_pass}
+use Rattle.fields.proofs.Faults.{both_pass, check_pass, pass, each_pass}
 use Rattle.automaton.proofs.Records.{Whole, whole, length-fits, length-records_in, file_records, accepted_parts}
 use Rattle.fields.proofs.Writes.{length_joined}
 
@@ -80,8 +80,7 @@ state_ok n at rest small h =
     let q : ℕ = word rest 0 / 4 in
     let a = both_pass (check (length_fits rest) at) _ h in
     let b = both_pass (check (ltb (word rest 3) n) (at + 3)) _ a.1 in
-    let d = both_pass (each_fault (range_fault n) 4 (at + 5) (record_in rest).ranges) None b.1 in
-    let rules = each_pass (λ r. (r.low ≤ r.high) × (r.next.0 < n)) (range_fault n) 4 (λ k r f. range_pass n k r f) (at + 5) (record_in rest).ranges d.0 in
+    let rules = each_pass (λ r. (r.low ≤ r.high) × (r.next.0 < n)) (range_fault n) 4 (λ k r f. range_pass n k r f) (at + 5) (record_in rest).ranges b.1 in
     let tops = all_made (λ (r : ByteRange). r.high < 256) (range_at (drop 5 rest)) (λ k. drop_small rest 5 small (4 * k + 1)) 0 q in (
       small 2,
       good.default,
@@ -190,7 +189,7 @@ module _ (n : ℕ) (s : StateRecord) (more : List ℕ) (few : n ≤ 512) (ok : R
       let len = length_read in
       pass (length_fits bs) at _ (length-fits bs (omega (arith, length-append (record_bytes s) more)) (ap (λ (k : ℕ). k % 4) len ∙ omega arith))
       ∙ (pass (ltb (word bs 3) n) (at + 3) _ (lt-ltb (word bs 3) n (omega (arith, default_read, ok.1)))
-      ∙ (last_fault _ ∙ (ap (each_fault (range_fault n) 4 (at + 5)) ranges_read ∙ ranges_fine n (at + 5) s.ranges ok.3)))
+      ∙ (ap (each_fault (range_fault n) 4 (at + 5)) ranges_read ∙ ranges_fine n (at + 5) s.ranges ok.3))
 
 states_read : (n : ℕ) (ss : List StateRecord) → n ≤ 512 → AllByRecursion (RecordOk n) ss → records_in (length ss) (flat_map record_bytes ss) ≡ ss
 states_read n [] few ok = refl

@@ -1,31 +1,24 @@
 -- Ranges and records, one at a time.
-use Rattle.std.proofs.Common.{◌≡◌, ℕ, zero, suc, ◌+◌, ◌-◌, ◌*◌, ◌/◌, ◌%◌, ◌<◌, ◌≤◌, true, false, cond, ◌&&◌, eqb, ltb, leb, List, [], ◌∷◌, length, get_or, drop, is_some, None, Ok, Err, Option, sym, refl, ap, ◌∙◌, subst, arith}
-use Rattle.std.proofs.lemmas.List.{at_drop_more, at_drop_all, drop_more}
-use Rattle.std.proofs.lemmas.List.FromFn.{get_or-map-range_with_len, length-map-range_with_len}
-use Rattle.std.proofs.lemmas.Bool.{cond-true, cond-false, and_from, and_parts, le-leb, leb-true, eq-eqb, eqb-true, lt-ltb, ltb-true}
+use Rattle.std.proofs.Common.{◌≡◌, ℕ, zero, suc, ◌+◌, ◌-◌, ◌*◌, ◌/◌, ◌%◌, ◌<◌, ◌≤◌, true, false, cond, ◌&&◌, eqb, ltb, leb, List, [], ◌∷◌, length, get_or, drop, is_some, None, Some, Ok, Err, Option, sym, refl, ap, ◌∙◌, subst, arith}
+use Rattle.std.specs.List.{find}
+use Rattle.std.specs.Option.{option_map, unwrap_or}
+use Rattle.std.proofs.lemmas.List.{drop_more}
+use Rattle.std.proofs.lemmas.List.FromFn.{length-map-range_with_len}
+use Rattle.std.proofs.lemmas.Bool.{cond-true, and_from, and_parts, le-leb, leb-true, eq-eqb, eqb-true, lt-ltb, ltb-true}
 use Rattle.fields.proofs.Faults.{passed, stopped, both_pass, check_pass, pass, last_fault}
 use Rattle.ternary.specs.declared.refusal.Refusal.TheVariants.{OutputTooShort}
 use Rattle.ternary.specs.Refusals.{refuse_or}
 use Rattle.ternary.specs.declared.words.StateNo.{StateNo}
 use Rattle.automaton.specs.declared.words.ByteRange.{ByteRange}
 use Rattle.fields.specs.Fields.{word, long, check, or_else, each_fault}
-use Rattle.automaton.specs.File.{fault, fields_fault, read_answer, header_of, room_for, StateRecord, range_at, ranges_in, in_range, next_by, record_size, length_fits, range_fault, record_fault, records_fault, record_in, records_in}
+use Rattle.automaton.specs.File.{fault, fields_fault, read_answer, header_of, room_for, StateRecord, range_at, ranges_in, in_range, next_by, record_size, length_fits, range_fault, parts_fault, record_fault, records_fault, record_in, records_in}
 
-module _ (bs : List ℕ) (count : ℕ) (default : StateNo) (byte i : ℕ) where
-  module _ (h : i < count) where
-    next_here : next_by (drop i (ranges_in bs count)) default byte ≡ cond (in_range (range_at bs i) byte) (range_at bs i).next (next_by (drop (i + 1) (ranges_in bs count)) default byte)
-    next_here =
-        at_drop_more (λ (rs : List ByteRange). next_by rs default byte) (ranges_in bs count) i (range_at bs i) (rw length-map-range_with_len h)
-        ∙ ap (λ (r : ByteRange). cond (in_range r byte) r.next (next_by (drop (i + 1) (ranges_in bs count)) default byte)) (get_or-map-range_with_len (range_at bs) 0 count i i (range_at bs i) h (omega arith))
-
-    pub next_found : (r : ByteRange) → r ≡ range_at bs i → in_range r byte ≡ true → next_by (drop i (ranges_in bs count)) default byte ≡ r.next
-    next_found r e t = next_here ∙ (cond-true _ _ _ (ap (λ (x : ByteRange). in_range x byte) (sym e) ∙ t) ∙ ap (λ (x : ByteRange). x.next) (sym e))
-
-    pub next_more : (r : ByteRange) → r ≡ range_at bs i → in_range r byte ≡ false → next_by (drop i (ranges_in bs count)) default byte ≡ next_by (drop (i + 1) (ranges_in bs count)) default byte
-    next_more r e t = next_here ∙ cond-false _ _ _ (ap (λ (x : ByteRange). in_range x byte) (sym e) ∙ t)
-
-  pub next_all : count ≤ i → next_by (drop i (ranges_in bs count)) default byte ≡ default
-  next_all h = at_drop_all (λ (rs : List ByteRange). next_by rs default byte) (ranges_in bs count) i (rw length-map-range_with_len h)
+-- the successor on a byte, as a search that ends at the first range that holds it
+pub next_found : (rs : List ByteRange) (default : StateNo) (byte : ℕ) → unwrap_or (option_map (λ r. r.next) (find (λ r. in_range r byte) rs)) default ≡ next_by rs default byte
+next_found [] default byte = refl
+next_found (r ∷ rs) default byte =
+    elim (in_range r byte) as (λ t. unwrap_or (option_map (λ x. x.next) (cond t (Some r) (find (λ x. in_range x byte) rs))) default ≡ cond t r.next (next_by rs default byte))
+    [ true ↦ refl | false ↦ next_found rs default byte ]
 
 pub length-fits : (rest : List ℕ) → record_size rest ≤ length rest → word rest 0 % 4 ≡ 3 → length_fits rest ≡ true
 length-fits rest within four =
@@ -35,7 +28,7 @@ length-fits rest within four =
 pub record_ranges : (n at : ℕ) (rest : List ℕ) → record_size rest ≤ length rest → word rest 0 % 4 ≡ 3 → word rest 3 < n → record_fault n at rest ≡ each_fault (range_fault n) 4 (at + 5) (ranges_in (drop 5 rest) (word rest 0 / 4))
 record_ranges n at rest within four small =
     pass (length_fits rest) at _ (length-fits rest within four)
-    ∙ (pass (ltb (word rest 3) n) (at + 3) _ (lt-ltb (word rest 3) n small) ∙ last_fault _)
+    ∙ pass (ltb (word rest 3) n) (at + 3) _ (lt-ltb (word rest 3) n small)
 
 -- one record of several
 module _ (n left fewer at : ℕ) (rest : List ℕ) (one : left ≡ suc fewer) (f : Option ℕ) (is : f ≡ record_fault n at rest) where
@@ -138,3 +131,33 @@ pub read_ok : (file : List ℕ) (rows marks : ℕ) → fault file ≡ None → 2
 read_ok file rows marks none r m =
     ap (λ (f : Option ℕ). refuse_or f (cond (room_for (word file 5) rows marks) (Ok (header_of file)) (Err OutputTooShort))) none
     ∙ cond-true _ _ _ (and_from (leb (256 * word file 5) rows) (leb (word file 5) marks) (le-leb (256 * word file 5) rows r) (le-leb (word file 5) marks m))
+
+-- a record whose length is right is what its bytes say
+pub record_told : (rest : List ℕ) (s : StateRecord) → Some s ≡ cond (length_fits rest) (Some (record_in rest)) None → (length_fits rest ≡ true) × (s ≡ record_in rest)
+record_told rest s =
+    elim (length_fits rest) as (λ t. Some s ≡ cond t (Some (record_in rest)) None → (t ≡ true) × (s ≡ record_in rest))
+    [ true ↦ (λ e. (refl, cc)) | false ↦ (λ e. let z : ◌≡◌ {A = ℕ} 0 1 = cc in absurd (omega arith)) ]
+
+-- and takes the bytes that it says: five, and four a range
+pub record_long : (rest : List ℕ) → length_fits rest ≡ true → 5 + 4 * length (record_in rest).ranges ≡ record_size rest
+record_long rest fits =
+    let parts = and_parts (leb (record_size rest) (length rest)) (eqb (word rest 0 % 4) 3) fits in
+    omega (arith, length-map-range_with_len (range_at (drop 5 rest)) 0 (word rest 0 / 4), eqb-true (word rest 0 % 4) 3 parts.1)
+
+-- a record that has no fault is answered by its size
+pub record_passed : (n at : ℕ) (rest : List ℕ) → length_fits rest ≡ true → parts_fault n at (record_in rest) ≡ None → Ok (record_size rest) ≡ refuse_or (record_fault n at rest) (Ok (record_size rest))
+record_passed n at rest fits none = ap (λ f. refuse_or f (Ok (record_size rest))) (sym (pass (length_fits rest) at _ fits ∙ none))
+
+-- the record that a whole record's bytes are taken apart to
+pub whole_fits : (n : ℕ) (rest : List ℕ) → Whole n rest → length_fits rest ≡ true
+whole_fits n rest good = length-fits rest good.within good.four
+
+pub whole_read : (n : ℕ) (rest : List ℕ) → Whole n rest → (r : Option StateRecord) → r ≡ cond (length_fits rest) (Some (record_in rest)) None → r ≡ Some (record_in rest)
+whole_read n rest good r e = e ∙ cond-true _ _ _ (whole_fits n rest good)
+
+-- so there is one
+none_some : {X : Type 0} (x : X) → ◌≡◌ {A = Option X} None (Some x) → ⊥
+none_some x e = let z : ◌≡◌ {A = ℕ} 0 1 = cc in omega arith
+
+pub whole_some : (n : ℕ) (rest : List ℕ) → Whole n rest → (r : Option StateRecord) → r ≡ None → r ≡ cond (length_fits rest) (Some (record_in rest)) None → ⊥
+whole_some n rest good r none e = none_some (record_in rest) (sym none ∙ whole_read n rest good r e)

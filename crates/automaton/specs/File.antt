@@ -7,6 +7,7 @@ use Rattle.ternary.specs.Refusals.{refuse_or}
 use Rattle.ternary.specs.declared.words.StateNo.{StateNo}
 use Rattle.fields.specs.Fields.{word, long, be16, be32, written, check, or_else, first_of, each_fault}
 use Rattle.automaton.specs.declared.words.ByteRange.{ByteRange}
+use Rattle.automaton.specs.declared.file.record.Record.{Record}
 use Rattle.automaton.specs.declared.words.Header.{Header}
 
 -- the state of a number
@@ -79,6 +80,10 @@ range_at bs k = record { low = slice_index bs (4 * k); high = slice_index bs (4 
 abbrev pub ranges_in : List ℕ → ℕ → List ByteRange
 ranges_in bs n = map (range_at bs) (range_with_len 0 n)
 
+-- what a record that was taken apart says
+abbrev pub said : Record → StateRecord
+said r = record { class = r.class; default = r.default; ranges = ranges_in r.ranges.now r.count }
+
 -- how many bytes a record takes: its length and the two bytes that say it
 abbrev pub record_size : List ℕ → ℕ
 record_size rest = 2 + word rest 0
@@ -106,12 +111,13 @@ range_fault n at r = first_of (check (nat_le r.low r.high) at ∷ check (nat_lt 
 abbrev pub length_fits : List ℕ → Bool
 length_fits rest = nat_le (record_size rest) (length rest) && word rest 0 % 4 == 3
 
--- of the record at `at`: its length, its default, its ranges
+-- of what a record at `at` says: its default, its ranges
+abbrev pub parts_fault : ℕ → ℕ → StateRecord → Option ℕ
+parts_fault n at s = or_else (check (nat_lt s.default.0 n) (at + 3)) (each_fault (range_fault n) 4 (at + 5) s.ranges)
+
+-- of the record at `at`: its length, then what it says
 abbrev pub record_fault : ℕ → ℕ → List ℕ → Option ℕ
-record_fault n at rest = first_of (
-    check (length_fits rest) at ∷
-    check (nat_lt (word rest 3) n) (at + 3) ∷
-    each_fault (range_fault n) 4 (at + 5) (record_in rest).ranges ∷ [])
+record_fault n at rest = or_else (check (length_fits rest) at) (parts_fault n at (record_in rest))
 
 -- of the records that are left, `rest` being the file from `at` on: a record, or a byte after the last
 abbrev pub records_fault : ℕ → ℕ → ℕ → List ℕ → Option ℕ

@@ -2,7 +2,7 @@ ghost use Rattle.std.specs.Prelude.{◌≡◌, length};
 ghost use Rattle.automaton.specs.File.{decode, header_of, rows, classes as classes_of, read_answer, filled};
 ghost use Rattle.automaton.specs.Laws.{KeepsLimits, IsItsSourcesFile, GivesSourceBack, GivesAutomatonBack};
 
-use crate::file::faults::file_fault;
+use crate::file::faults::check_file;
 use crate::file::fill::fill;
 use crate::words::Header;
 use fields::word_at;
@@ -11,7 +11,7 @@ use ternary::words::StateNo;
 
 mod faults;
 mod fill;
-mod records;
+mod record;
 
 // Reads an automaton file into two lent buffers, the successors state by state and a class for each state,
 // and answers the number of states and the start state.
@@ -33,9 +33,7 @@ fn read_into(file: &[u8], successors: &mut [StateNo], classes: &mut [u8]) -> Res
     ensures successors { successors.new ≡ filled result successors.old (rows (decode file.now)) }
     ensures classes { classes.new ≡ filled result classes.old (classes_of (decode file.now)) }
 {
-    if let Some(at) = file_fault(file) {
-        return Err(Refusal::Malformed(at));
-    }
+    check_file(file)?;
     let header = header(file);
     let states = header.states as usize;
     if successors.len() < 256 * states || classes.len() < states {

@@ -4,4 +4,3 @@ pub mod Packs
 pub mod PartsBack
 pub mod Raws
 pub mod Ruled
-pub mod Verdicts

@@ -1,7 +1,7 @@
 use Rattle.std.proofs.Common.{refl, arith}
 use Rattle.image.specs.Rules.{fault}
 use Rattle.image.proofs.BytesBack.{bytes_back}
-use Rattle.image.proofs.Verdicts.{passed_none}
+use Rattle.ternary.proofs.Verdicts.{passed_none}
 use Rattle.image.proofs.reader.unpack.Goals as goal
 
 pub returns : goal.returns

@@ -3,7 +3,7 @@ use Rattle.ternary.specs.declared.words.StateCode.{StateCode}
 use Rattle.ternary.specs.Refusals.{verdict}
 use Rattle.fields.proofs.Faults.{list_more, list_found, list_all}
 use Rattle.image.specs.Rules.{code_fault}
-use Rattle.image.proofs.Verdicts.{passed_none, stopped_at}
+use Rattle.ternary.proofs.Verdicts.{passed_none, stopped_at}
 use Rattle.image.proofs.writer.check_codes.Goals as goal
 
 pub returns-in_err-check_code : goal.returns-in_err-check_code

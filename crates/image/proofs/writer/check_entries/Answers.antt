@@ -5,7 +5,7 @@ use Rattle.fields.proofs.Faults.{list_more, list_found, list_all}
 use Rattle.image.specs.Format.{raw_of}
 use Rattle.image.specs.Rules.{raw_fault}
 use Rattle.image.proofs.Raws.{raw_at_lem}
-use Rattle.image.proofs.Verdicts.{passed_none, stopped_at}
+use Rattle.ternary.proofs.Verdicts.{passed_none, stopped_at}
 use Rattle.image.proofs.writer.check_entries.Goals as goal
 
 pub returns-in_err-check : goal.returns-in_err-check

@@ -3,7 +3,7 @@ use Rattle.image.specs.Format.{Parts, parts_from, decode}
 use Rattle.image.specs.Rules.{fault, parts_fault}
 use Rattle.image.proofs.Packs.{packed_answer, packed_after, written-encode, packed_front}
 use Rattle.image.proofs.PartsBack.{parts_back}
-use Rattle.image.proofs.Verdicts.{passed_none}
+use Rattle.ternary.proofs.Verdicts.{passed_none}
 use Rattle.image.proofs.writer.pack.Goals as goal
 
 pub returns : goal.returns

@@ -3,7 +3,7 @@ use Rattle.ternary.specs.Refusals.{verdict}
 use Rattle.fields.proofs.Faults.{each_more, each_found, each_all}
 use Rattle.image.specs.Format.{code_at}
 use Rattle.image.specs.Rules.{code_fault}
-use Rattle.image.proofs.Verdicts.{passed_none, stopped_at}
+use Rattle.ternary.proofs.Verdicts.{passed_none, stopped_at}
 use Rattle.image.proofs.reader.checks.check_codes.Goals as goal
 
 pub returns-in_err-check_code : goal.returns-in_err-check_code

@@ -1,6 +1,6 @@
 use Rattle.std.proofs.Common.{◌≡◌, ◌+◌, ◌-◌, length}
 use Rattle.automaton.specs.File.{records_fault}
-use Rattle.automaton.proofs.file.faults.records_fault.Given as goal
+use Rattle.automaton.proofs.file.faults.check_records.Given as goal
 
 abbrev pub invariant-loop-state : goal.invariant-loop-state
 invariant-loop-state l =
