@@ -75,3 +75,8 @@ each_pass P f step one at [] h = tt
 each_pass P f step one at (x ∷ xs) h =
     let parts = both_pass (f at x) (each_fault f step (at + step) xs) h in
     (one at x parts.0, each_pass P f step one (at + step) xs parts.1)
+
+-- the faults of items that are made from others
+pub each_made : {X Y : Type 0} (f : ℕ → Y → Option ℕ) (make : X → Y) (step at : ℕ) (xs : List X) → each_fault (λ k x. f k (make x)) step at xs ≡ each_fault f step at (map make xs)
+each_made f make step at [] = refl
+each_made f make step at (x ∷ xs) = ap (or_else (f at (make x))) (each_made f make step (at + step) xs)

@@ -60,9 +60,13 @@ encode p =
     header_bytes p.width (length p.codes) p.start.0 (length p.entries)
     ++ (flat_map code_bytes p.codes ++ flat_map entry_bytes p.entries)
 
+-- the code in the two bytes at `at`
+abbrev pub code_in : List ℕ → ℕ → StateCode
+code_in bs at = record { 0 = word bs at }
+
 -- the code of the state k
 abbrev pub code_at : List ℕ → ℕ → StateCode
-code_at bs k = record { 0 = word bs (12 + 2 * k) }
+code_at bs k = code_in bs (12 + 2 * k)
 
 -- the fields in the nine bytes at `at`
 abbrev pub fields_at : List ℕ → ℕ → RawEntry

@@ -2,6 +2,7 @@
 use Rattle.std.specs.Prelude.{ℕ, ◌+◌, ◌-◌, ◌*◌, ◌^◌, Bool, ◌&&◌, List, [], ◌∷◌, map, length, Option, ◌==◌, bit_and, nat_le, nat_lt, slice_index}
 use Rattle.ternary.specs.declared.words.StateCode.{StateCode}
 use Rattle.fields.specs.Fields.{word, long, check, or_else, first_of, each_fault}
+use Rattle.ternary.specs.declared.entry.Entry.{Entry}
 use Rattle.image.specs.declared.raw.RawEntry.{RawEntry}
 use Rattle.image.specs.Format.{Parts, size, raw_of, codes_in, raws_in}
 
@@ -20,6 +21,14 @@ raw_fault limit at f = first_of (
     check (nat_lt f.code_mask limit) (at + 2) ∷
     check (clear f.byte_value f.byte_mask) (at + 4) ∷
     check (nat_lt f.next.0 limit) (at + 6) ∷ [])
+
+-- the same of an entry
+abbrev pub entry_fault : ℕ → ℕ → Entry → Option ℕ
+entry_fault limit at e = raw_fault limit at (raw_of e)
+
+-- the item k of items of one size that some bytes hold from `first` on
+abbrev pub item_in : {X : Type 0} → ℕ → (List ℕ → ℕ → X) → List ℕ → ℕ → ℕ → X
+item_in size said bs first k = said bs (first + size * k)
 
 -- the first fault of the header's fields after its length
 abbrev pub header_fault : ℕ → ℕ → ℕ → ℕ → Option ℕ

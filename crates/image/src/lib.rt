@@ -1,5 +1,7 @@
 #![tactic(auto)]
 
+mod codes;
+mod item;
 mod raw;
 pub mod reader;
 mod rules;

@@ -1,8 +1,9 @@
-ghost use Rattle.std.specs.Prelude.{◌≡◌, ◌^◌, ◌<◌};
-ghost use Rattle.ternary.specs.Refusals.{verdict};
-ghost use Rattle.image.specs.Format.{entry_from, fields_at, raw_bytes, raw_of};
-ghost use Rattle.image.specs.Rules.{raw_fault};
+// An entry, as an image holds it.
+ghost use Rattle.std.specs.Prelude.{◌≡◌, refl};
+ghost use Rattle.image.specs.Format.{entry_bytes, entry_from, fields_at, raw_bytes, raw_of};
+ghost use Rattle.image.specs.Rules.{entry_fault, raw_fault};
 
+use crate::item::{Item, Readable, Writable, put};
 use fields::{byte_at, word_at};
 use ternary::entry::Entry;
 use ternary::refusal::Refusal;
@@ -20,49 +21,6 @@ pub(crate) struct RawEntry {
 }
 
 impl RawEntry {
-    // The fields in the nine bytes at `at`.
-    pub(crate) fn read(bytes: &[u8], at: usize) -> RawEntry
-        requires { at < 2 ^ 32 }
-        ensures { result ≡ fields_at bytes.now at }
-    {
-        RawEntry {
-            code_value: word_at(bytes, at),
-            code_mask: word_at(bytes, at + 2),
-            byte_value: byte_at(bytes, at + 4),
-            byte_mask: byte_at(bytes, at + 5),
-            next: StateCode(word_at(bytes, at + 6)),
-            class: byte_at(bytes, at + 8),
-        }
-    }
-
-    // The fields of an entry.
-    pub(crate) fn of(entry: &Entry) -> RawEntry
-        ensures { result ≡ raw_of entry.now }
-    {
-        RawEntry {
-            code_value: entry.code_value(),
-            code_mask: entry.code_mask(),
-            byte_value: entry.byte_value(),
-            byte_mask: entry.byte_mask(),
-            next: entry.next(),
-            class: entry.class(),
-        }
-    }
-
-    // The entry with these fields.
-    pub(crate) fn entry(self) -> Entry
-        ensures { result ≡ entry_from self }
-    {
-        Entry::new(
-            self.code_value,
-            self.code_mask,
-            self.byte_value,
-            self.byte_mask,
-            self.next,
-            self.class,
-        )
-    }
-
     // The nine bytes of these fields.
     pub(crate) fn bytes(self) -> [u8; 9]
         ensures { result ≡ raw_bytes self }
@@ -82,12 +40,48 @@ impl RawEntry {
             self.class,
         ]
     }
+}
 
-    // Refuses the first of these fields, from `at` on, that breaks a rule.
-    pub(crate) fn check(self, limit: u32, at: usize) -> Result<(), Refusal>
-        requires { at < 2 ^ 32 }
-        ensures { result ≡ verdict (raw_fault limit at self) }
-    {
+impl From<&Entry> for RawEntry {
+    ghost from_gives = { λ entry raw. raw ≡ raw_of entry.now };
+
+    // The fields of an entry.
+    fn from(entry: &Entry) -> RawEntry {
+        RawEntry {
+            code_value: entry.code_value(),
+            code_mask: entry.code_mask(),
+            byte_value: entry.byte_value(),
+            byte_mask: entry.byte_mask(),
+            next: entry.next(),
+            class: entry.class(),
+        }
+    }
+}
+
+impl From<RawEntry> for Entry {
+    ghost from_gives = { λ raw entry. entry ≡ entry_from raw };
+
+    // The entry with these fields.
+    fn from(raw: RawEntry) -> Entry {
+        Entry::new(
+            raw.code_value,
+            raw.code_mask,
+            raw.byte_value,
+            raw.byte_mask,
+            raw.next,
+            raw.class,
+        )
+    }
+}
+
+impl Item for RawEntry {
+    ghost SIZE = { 9 };
+
+    const SIZE: usize = 9;
+
+    ghost fault = { raw_fault };
+
+    fn check(self, limit: u32, at: usize) -> Result<(), Refusal> {
         if self.code_value as u32 >= limit || self.code_value & self.code_mask != self.code_value {
             Err(Refusal::Malformed(at))
         } else if self.code_mask as u32 >= limit {
@@ -100,4 +94,41 @@ impl RawEntry {
             Ok(())
         }
     }
+}
+
+impl Readable for RawEntry {
+    ghost said = { fields_at };
+
+    fn read(bytes: &[u8], at: usize) -> RawEntry {
+        RawEntry {
+            code_value: word_at(bytes, at),
+            code_mask: word_at(bytes, at + 2),
+            byte_value: byte_at(bytes, at + 4),
+            byte_mask: byte_at(bytes, at + 5),
+            next: StateCode(word_at(bytes, at + 6)),
+            class: byte_at(bytes, at + 8),
+        }
+    }
+}
+
+impl Item for Entry {
+    ghost SIZE = { 9 };
+
+    const SIZE: usize = 9;
+
+    ghost fault = { entry_fault };
+
+    fn check(self, limit: u32, at: usize) -> Result<(), Refusal> {
+        RawEntry::from(&self).check(limit, at)
+    }
+}
+
+impl Writable for Entry {
+    ghost bytes = { entry_bytes };
+
+    fn put(self, out: &mut [u8], at: usize) {
+        put(out, at, &RawEntry::from(&self).bytes());
+    }
+
+    ghost long = { λ _. refl };
 }

@@ -3,9 +3,9 @@ ghost use Rattle.std.specs.List.{slice_get};
 ghost use Rattle.std.specs.Option.{option_map};
 ghost use Rattle.ternary.specs.declared.refusal.Refusal.TheVariants.{Malformed};
 ghost use Rattle.image.specs.Calls.{Accepted, header_in, header_of, parts_of};
-ghost use Rattle.image.specs.Format.{code_at};
 ghost use Rattle.image.specs.Rules.{fault};
 
+use crate::item::Readable;
 use crate::raw::RawEntry;
 use crate::reader::checks::check_image;
 use fields::{byte_at, word_at};
@@ -58,7 +58,7 @@ impl Image<'_> {
         ensures { result ≡ slice_get (parts_of self.now).codes state.0 }
     {
         if state.0 < self.header().states {
-            Some(code_at(self.bytes, state.0 as usize))
+            Some(StateCode::read(self.bytes, 12 + 2 * usize::from(state)))
         } else {
             None
         }
@@ -71,19 +71,11 @@ impl Image<'_> {
         let header = self.header();
         if index < header.entries as usize {
             let at = 12 + 2 * header.states as usize + 9 * index;
-            Some(RawEntry::read(self.bytes, at).entry())
+            Some(RawEntry::read(self.bytes, at).into())
         } else {
             None
         }
     }
-}
-
-// The code in the two bytes of a state.
-pub(crate) fn code_at(bytes: &[u8], state: usize) -> StateCode
-    requires { state < 2 ^ 32 }
-    ensures { result ≡ code_at bytes.now state }
-{
-    StateCode(word_at(bytes, 12 + 2 * state))
 }
 
 // The image in some bytes, or the offset of the first field that breaks a rule.

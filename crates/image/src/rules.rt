@@ -1,9 +1,9 @@
 ghost use Rattle.std.specs.Prelude.{◌≡◌, ◌^◌, ◌≤◌};
 ghost use Rattle.ternary.specs.Refusals.{verdict};
-ghost use Rattle.image.specs.Rules.{code_fault, header_fault};
+ghost use Rattle.image.specs.Rules.{header_fault};
 
 use ternary::refusal::Refusal;
-use ternary::words::{StateCode, StateNo};
+use ternary::words::StateNo;
 
 // Refuses the first field of the header after its length that breaks a rule.
 pub(crate) fn check_header(
@@ -22,17 +22,6 @@ pub(crate) fn check_header(
         Err(Refusal::Malformed(8))
     } else if entries > 4096 {
         Err(Refusal::Malformed(10))
-    } else {
-        Ok(())
-    }
-}
-
-// Refuses a code at `at` that is not below the limit.
-pub(crate) fn check_code(code: StateCode, limit: u32, at: usize) -> Result<(), Refusal>
-    ensures { result ≡ verdict (code_fault limit at code) }
-{
-    if code.0 as u32 >= limit {
-        Err(Refusal::Malformed(at))
     } else {
         Ok(())
     }

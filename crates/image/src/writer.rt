@@ -6,34 +6,11 @@ ghost use Rattle.image.specs.Calls.{pack_after, pack_answer};
 ghost use Rattle.image.specs.Format.{code_bytes, decode, entry_bytes, header_bytes, parts_from, raw_of};
 ghost use Rattle.image.specs.Rules.{code_fault, fault, parts_fault, raw_fault};
 
-use crate::raw::RawEntry;
-use crate::rules::{check_code, check_header, code_limit};
+use crate::item::{check_all, put, put_all};
+use crate::rules::{check_header, code_limit};
 use ternary::entry::Entry;
 use ternary::refusal::Refusal;
 use ternary::words::{StateCode, StateNo};
-
-// Refuses the first code that would break a rule in an image.
-fn check_codes(codes: &[StateCode], limit: u32) -> Result<(), Refusal>
-    requires { length codes.now ≤ 512 }
-    ensures { result ≡ verdict (each_fault (code_fault limit) 2 12 codes.now) }
-{
-    for (state, code) in codes.iter().enumerate() {
-        check_code(*code, limit, 12 + 2 * state)?;
-    }
-    Ok(())
-}
-
-// Refuses the first field of the entries, from `at` on, that would break a rule in an image.
-fn check_entries(entries: &[Entry], limit: u32, at: usize) -> Result<(), Refusal>
-    requires count { length entries.now ≤ 4096 }
-    requires small { at < 2 ^ 31 }
-    ensures { result ≡ verdict (each_fault (raw_fault limit) 9 at (map raw_of entries.now)) }
-{
-    for (index, entry) in entries.iter().enumerate() {
-        RawEntry::of(entry).check(limit, at + 9 * index)?;
-    }
-    Ok(())
-}
 
 // Refuses the first field that would break a rule in the image of these parts.
 fn check_parts(
@@ -46,8 +23,8 @@ fn check_parts(
 {
     check_header(width, codes.len(), start, entries.len())?;
     let limit = code_limit(width);
-    check_codes(codes, limit)?;
-    check_entries(entries, limit, 12 + 2 * codes.len())
+    check_all(codes, limit, 12)?;
+    check_all(entries, limit, 12 + 2 * codes.len())
 }
 
 // The bytes before the codes.
@@ -60,35 +37,6 @@ fn header_bytes(width: u8, states: u16, start: StateNo, entries: u16) -> [u8; 12
     let [s1, s0] = start.0.to_be_bytes();
     let [m1, m0] = entries.to_be_bytes();
     [1, r3, r2, r1, r0, width, n1, n0, s1, s0, m1, m0]
-}
-
-// Writes a field over the bytes at `at`.
-fn put(out: &mut [u8], at: usize, field: &[u8])
-    requires { at + length field.now ≤ length out.old }
-    ensures { out.new ≡ written out.old at field.now }
-{
-    let end = at + field.len();
-    out[at..end].copy_from_slice(field);
-}
-
-// Writes the codes after the header.
-fn put_codes(out: &mut [u8], codes: &[StateCode])
-    requires { 12 + 2 * length codes.now ≤ length out.old }
-    ensures { out.new ≡ written out.old 12 (flat_map code_bytes codes.now) }
-{
-    for (state, code) in codes.iter().enumerate() {
-        put(out, 12 + 2 * state, &code.0.to_be_bytes());
-    }
-}
-
-// Writes the entries from `at` on.
-fn put_entries(out: &mut [u8], at: usize, entries: &[Entry])
-    requires { at + 9 * length entries.now ≤ length out.old }
-    ensures { out.new ≡ written out.old at (flat_map entry_bytes entries.now) }
-{
-    for (index, entry) in entries.iter().enumerate() {
-        put(out, at + 9 * index, &RawEntry::of(entry).bytes());
-    }
 }
 
 // Writes the image of these parts over the first bytes of the output, and answers its size; or the
@@ -112,7 +60,7 @@ pub fn pack(
     }
     let header = header_bytes(width, states as u16, start, entries.len() as u16);
     put(out, 0, &header);
-    put_codes(out, codes);
-    put_entries(out, 12 + 2 * states, entries);
+    put_all(out, 12, codes);
+    put_all(out, 12 + 2 * states, entries);
     Ok(size)
 }

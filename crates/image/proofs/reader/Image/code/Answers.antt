@@ -9,7 +9,7 @@ use Rattle.image.proofs.reader.Image.code.Goals as goal
 pub returns-then-state-header : goal.returns-then-state-header
 returns-then-state-header c =
     let bs = c.args.self.now.bytes.now in
-    ap Some c.code_at.ensures ∙ sym (nth_made (code_at bs) (word bs 6) c.args.state.0 (omega (arith, ap (λ (h : Header). h.states) c.header.ensures)))
+    ap Some (c.read.ensures ∙ ap (code_at bs) c.from.ensures) ∙ sym (nth_made (code_at bs) (word bs 6) c.args.state.0 (omega (arith, ap (λ (h : Header). h.states) c.header.ensures)))
 
 pub returns-else-state-header : goal.returns-else-state-header
 returns-else-state-header c =

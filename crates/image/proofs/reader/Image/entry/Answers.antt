@@ -17,7 +17,7 @@ returns-then-index-header c =
     let states = ap (λ (h : Header). h.states) says ∙ length-map-range_with_len (code_at bs) 0 (word bs 6) in
     let entries = ap (λ (h : Header). h.entries) says ∙ length-map (raws_in bs) entry_from in
     let there = nth_made (raw_at bs (word bs 6)) (word bs 10) i (omega (arith, entries)) in
-    ap Some (c.entry.ensures ∙ ap entry_from (c.read.ensures ∙ ap (λ (n : ℕ). raw_at bs n i) states))
+    ap Some (c.into.ensures ∙ ap entry_from (c.read.ensures ∙ ap (λ (n : ℕ). raw_at bs n i) states))
     ∙ sym (nth_map entry_from (raws_in bs) i ∙ ap (option_map entry_from) there)
 
 pub returns-else-index-header : goal.returns-else-index-header

@@ -1,6 +1,6 @@
 use Rattle.std.proofs.Common.{◌+◌, ◌-◌, length, arith}
 use Rattle.fields.proofs.Writes.{put_mid-written}
-use Rattle.image.proofs.writer.put.Goals as goal
+use Rattle.image.proofs.item.put.Goals as goal
 
 pub returns : goal.returns
 returns c =
