@@ -2,6 +2,7 @@
 
 mod codes;
 mod item;
+pub mod listed;
 mod raw;
 pub mod reader;
 mod rules;

@@ -1,4 +1,4 @@
-use Rattle.std.proofs.Common.{ℕ, ◌+◌, ◌*◌, sym, refl, ap, ◌∙◌, arith}
+use Rattle.std.proofs.Common.{ℕ, ◌+◌, ◌*◌, sym, ap, ◌∙◌, arith}
 use Rattle.fields.specs.Fields.{written}
 use Rattle.fields.proofs.Writes.{written_none, turn, turned}
 use Rattle.image.proofs.item.put_all.Goals as goal
