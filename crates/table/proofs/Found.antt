@@ -1,5 +1,5 @@
 -- What is found in an unpacked image is found in its bytes.
-use Rattle.std.proofs.Common.{◌≡◌, ℕ, ◌-◌, List, [], ◌∷◌, length, take, None, sym, ap, ◌∙◌, subst, arith}
+use Rattle.std.proofs.Common.{◌≡◌, ℕ, List, [], ◌∷◌, None, sym, ap, ◌∙◌, subst}
 use Rattle.ternary.specs.declared.entry.Entry.{Entry}
 use Rattle.ternary.specs.declared.words.StateCode.{StateCode}
 use Rattle.automaton.specs.Limits.{Handed, Within, dfa}
@@ -17,10 +17,6 @@ agreed a p h is same = (ap (λ (x : Header). x.states) (sym is) ∙ same.0, ap (
 
 pub disagree : (a : Handed) (p : Parts) (h : Header) → h ≡ header_of p → ((h.states ≡ a.states) × (h.start.0 ≡ a.start) → ⊥) → Agree a p → ⊥
 disagree a p h is differ agree = differ (ap (λ (x : Header). x.states) is ∙ agree.0, ap (λ (x : Header). x.start.0) is ∙ agree.1)
-
--- what was copied to the front, lent as a slice from 0
-pub front : {X : Type 0} (n : ℕ) (copy xs : List X) → n ≡ length xs → take (length xs) copy ≡ xs → take (n - 0) copy ≡ xs
-front n copy xs long same = ap (λ (k : ℕ). take k copy) (let e : n - 0 ≡ length xs = omega arith in e) ∙ same
 
 module _ (a : Handed) (bytes : List ℕ) (image : Image) (within : Within a) (ok : Accepted bytes image) where
   -- the bytes that the image holds have no fault either

@@ -1,4 +1,3 @@
-pub mod Copies
 pub mod Found
 pub mod HandedOn
 pub mod OneVerdict

@@ -1,9 +1,12 @@
 -- What the steps of a check answer, of codes and entries in memory. Assumes nothing.
-use Rattle.std.specs.Prelude.{ℕ, ◌<◌, List, Some, None, Option, slice_index_or}
+use Rattle.std.specs.Prelude.{ℕ, ◌<◌, List, drop, Some, None, Option, slice_index_or}
 use Rattle.ternary.specs.declared.entry.Entry.{Entry}
 use Rattle.ternary.specs.declared.words.StateCode.{StateCode}
 use Rattle.ternary.specs.declared.words.StateNo.{StateNo}
 use Rattle.automaton.specs.Runs.{Dfa}
+use Rattle.image.specs.declared.listed.Items.{Items}
+use Rattle.image.specs.Calls.{parts_of}
+use Rattle.image.specs.Format.{Parts}
 use Rattle.table.specs.Acceptance.{Right, Carries, FirstWrong}
 
 -- the code that a list of codes, in state order, gives to a state
@@ -19,3 +22,7 @@ WrongByte a code es s (Some b) = (b < 256) × (Right a code es s b → ⊥) × (
 abbrev pub WrongPlace : Dfa → (ℕ → StateCode) → List Entry → Option (StateNo × ℕ) → Type 0
 WrongPlace a code es None = Carries a code es
 WrongPlace a code es (Some place) = FirstWrong a code es place.0.0 place.1
+
+-- the items of an image's list that are still to be read
+abbrev pub unread : {X : Type 0} → (Parts → List X) → Items X → List X
+unread list items = drop items.next (list (parts_of items.image))
