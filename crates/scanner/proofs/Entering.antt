@@ -1,7 +1,8 @@
 -- A load by an unpacked image, told of the image's bytes.
-use Rattle.std.proofs.Common.{◌≡◌, ℕ, ◌<◌, ◌≤◌, min, List, [], length, get_or, Some, None, sym, ap, ◌∙◌, arith}
+use Rattle.std.proofs.Common.{◌≡◌, ℕ, ◌<◌, ◌≤◌, min, List, [], length, get_or, Some, None, ap, ◌∙◌, arith, length-drop}
 use Rattle.std.specs.List.{slice_get}
-use Rattle.std.proofs.lemmas.Option.{slice_get-get_or}
+use Rattle.std.proofs.lemmas.Option.{slice_get-get_or, slice_get_within}
+use Rattle.image.proofs.Items.{left_none}
 use Rattle.ternary.specs.declared.words.StateCode.{StateCode}
 use Rattle.automaton.specs.Limits.{Handed}
 use Rattle.image.specs.declared.reader.Header.{Header}
@@ -10,7 +11,6 @@ use Rattle.image.specs.Calls.{Accepted, header_of, parts_of}
 use Rattle.image.specs.Format.{Parts, decode}
 use Rattle.image.proofs.Ruled.{ruled}
 use Rattle.table.specs.Acceptance.{code_of, Acceptable}
-use Rattle.table.proofs.Copies.{nth_within, nth_beyond}
 use Rattle.scanner.specs.Book.{LoadRefuses, too_small}
 use Rattle.scanner.specs.Scanners.{Seen, at_start, Entered}
 
@@ -39,14 +39,15 @@ module _ (a : Handed) (bytes : List ℕ) (image : Image) (ok : Acceptable a byte
   -- the start state has a code
   pub start_coded : slice_get (parts_of image).codes a.start ≡ None → ⊥
   start_coded none =
-      let beyond = nth_beyond (parts_of image).codes a.start (sym none) in
+      let beyond = ap length (left_none (parts_of image).codes a.start none) in
+      let left = length-drop a.start (parts_of image).codes in
       let long : length (parts_of image).codes ≡ a.states = ap (λ (p : Parts). length p.codes) parts ∙ ok.agree.0 in
       omega (arith, ok.within.start_below)
 
   -- which is the image's
   pub start_code : (c : StateCode) → slice_get (parts_of image).codes a.start ≡ Some c → c ≡ code_of (decode bytes) a.start
   start_code c there =
-      let e = slice_get-get_or (parts_of image).codes a.start (record { 0 = 0 }) (nth_within (parts_of image).codes a.start c (sym there)) in
+      let e = slice_get-get_or (parts_of image).codes a.start (record { 0 = 0 }) (slice_get_within (parts_of image).codes a.start c there) in
       let same : c ≡ get_or (parts_of image).codes a.start (record { 0 = 0 }) = cc in
       same ∙ ap (λ (p : Parts). code_of p a.start) parts
 

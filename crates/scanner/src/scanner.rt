@@ -105,10 +105,8 @@ fn fill<C: Card>(card: &mut C, image: Image<'_>)
     ensures capacity { C.size card.new ≡ C.size card.old }
 {
     card.clear();
-    let mut index = 0;
-    while let Some(e) = image.entry(index) {
+    for e in image.entries() {
         let _ = card.append(e);
-        index += 1;
     }
 }
 
