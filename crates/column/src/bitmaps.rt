@@ -17,10 +17,9 @@ pub(crate) fn find(words: &[u64], count: usize, code: u16, byte: u8) -> Option<u
     ensures { MatchOption result ((j : ℕ) → j < count → hit words.now code byte j ≡ false)
         (λ i. (i < count) × (hit words.now code byte i ≡ true) × ((j : ℕ) → j < i → hit words.now code byte j ≡ false)) }
 {
-    let blocks = (count + 63) / 64;
+    let blocks = count.div_ceil(64);
     for block in 0..blocks {
-        let place = lowest(join(words, block, code, byte));
-        if place < 64 {
+        if let Some(place) = lowest(join(words, block, code, byte)) {
             let index = 64 * block + place as usize;
             return if index < count { Some(index) } else { None };
         }
@@ -51,13 +50,13 @@ fn join_field(words: &[u64], base: usize, number: u16, width: usize) -> u64
     joined
 }
 
-// The lowest set bit of a word, or 64 if none is set.
-fn lowest(word: u64) -> u32
-    ensures below { (p : ℕ) → p < result → bit word p ≡ false }
-    ensures found { result < 64 → bit word result ≡ true }
-    ensures within { result ≤ 64 }
+// The lowest set bit of a word.
+fn lowest(word: u64) -> Option<u32>
+    ensures { MatchOption result ((p : ℕ) → p < 64 → bit word p ≡ false)
+        (λ place. (place < 64) × (bit word place ≡ true) × ((p : ℕ) → p < place → bit word p ≡ false)) }
 {
-    word.trailing_zeros()
+    let place = word.trailing_zeros();
+    if place < 64 { Some(place) } else { None }
 }
 
 // Writes which bit values the entry at `index` accepts, for each bit of the code and of the byte.
