@@ -4,8 +4,9 @@ use Rattle.std.proofs.lemmas.List.{append-nil, append_assoc}
 use Rattle.std.proofs.lemmas.Bool.{true≢false}
 use Rattle.ternary.specs.declared.entry.Entry.{Entry}
 use Rattle.ternary.specs.declared.refusal.Refusal.{Refusal}
-use Rattle.ternary.specs.Match.{Decision, first}
-use Rattle.ternary.proofs.FirstMatch.{or_else, first-++}
+use Rattle.ternary.specs.Match.{first}
+use Rattle.std.specs.Option.{option_or}
+use Rattle.ternary.proofs.FirstMatch.{first-++}
 use Rattle.card.specs.declared.tandem.Tandem.{Tandem}
 use Rattle.card.specs.Cards.{no_entry, Added, Declined}
 use Rattle.card.specs.Tandem.{in_a_row, free_of}
@@ -16,11 +17,8 @@ none_in_both [] fs = refl
 none_in_both (e ∷ es) fs = refl
 
 -- the first match is the first card's, and where that has none, the second's
-pub found_in_first : (es fs : List Entry) (code byte : ℕ) (d : Decision) → Some d ≡ first es code byte → Some d ≡ first (in_a_row es fs) code byte
-found_in_first es fs code byte d found = ap (λ o. or_else o (first fs code byte)) found ∙ sym (first-++ es fs code byte)
-
-pub left_to_second : (es fs : List Entry) (code byte : ℕ) (r : Option Decision) → None ≡ first es code byte → r ≡ first fs code byte → r ≡ first (in_a_row es fs) code byte
-left_to_second es fs code byte r none found = found ∙ (ap (λ o. or_else o (first fs code byte)) none ∙ sym (first-++ es fs code byte))
+pub first_or : (es fs : List Entry) (code byte : ℕ) → option_or (first es code byte) (first fs code byte) ≡ first (in_a_row es fs) code byte
+first_or es fs code byte = sym (first-++ es fs code byte)
 
 -- the free count is the second card's where its list has an entry, or the first has no free place
 pub free_of_second : (a b : ℕ) (fs : List Entry) → no_entry fs ≡ false → free_of a b fs ≡ b

@@ -51,9 +51,7 @@ impl<A: Card, B: Card> Card for Tandem<A, B> {
     }
 
     fn search(&self, code: StateCode, byte: u8) -> Option<(StateCode, u8)> {
-        match self.first.search(code, byte) {
-            Some(found) => Some(found),
-            None => self.second.search(code, byte),
-        }
+        let found = self.first.search(code, byte);
+        found.or_else(|| self.second.search(code, byte))
     }
 }

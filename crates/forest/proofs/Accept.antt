@@ -4,7 +4,8 @@ use lib.Bits.{bit_and}
 use Rattle.std.proofs.lemmas.Bool.{eq-eqb, ne_eqb, cases_eq}
 use Rattle.ternary.specs.declared.words.StateCode.{StateCode}
 use Rattle.ternary.specs.Match.{pick, first}
-use Rattle.ternary.proofs.FirstMatch.{or_else, first-++}
+use Rattle.std.specs.Option.{option_or}
+use Rattle.ternary.proofs.FirstMatch.{first-++}
 use Rattle.forest.specs.Words.{ByteWord}
 use Rattle.automaton.specs.Runs.{Dfa}
 use Rattle.forest.specs.Forest.{Forest, WellFormed, code, mask, Above, here, up}
@@ -23,9 +24,9 @@ shade f s = bit_and (code f s) (mask f s)
 shade_code : (f : Forest) → WellFormed f → (s : ℕ) → s < f.states → shade f s ≡ code f s
 shade_code f wf s hs = above_match f wf s s hs hs here
 
-or_else_none : (o : Option (StateCode × ℕ)) → or_else o None ≡ o
-or_else_none (Some d) = refl
-or_else_none None = refl
+option_or_none : (o : Option (StateCode × ℕ)) → option_or o None ≡ o
+option_or_none (Some d) = refl
+option_or_none None = refl
 
 module _ (a : Dfa) (f : Forest) where
   -- the answer for a successor, if there is one
@@ -64,7 +65,7 @@ module _ (a : Dfa) (f : Forest) where
     level_none d zero c b h = refl
     level_none d (suc n) c b h =
         first-++ (level a f words d n) (cond (eqb (f.depth n) d) (block a f words n) []) c b
-        ∙ ap₂ or_else (level_none d n c b (λ u hu. h u (omega arith))) (last_none d n c b (λ e k. h n (omega arith) e k))
+        ∙ ap₂ option_or (level_none d n c b (λ u hu. h u (omega arith))) (last_none d n c b (λ e k. h n (omega arith) e k))
 
     -- just one state t of them has such a shadow: its words give the answer
     level-hit : (d n c b t : ℕ) → t < n → f.depth t ≡ d → bit_and c (mask f t) ≡ shade f t →
@@ -73,21 +74,21 @@ module _ (a : Dfa) (f : Forest) where
     level-hit d (suc n) c b t ht hd k h = elim (cases_eq t n) [
       | inl e ↦
           first-++ (level a f words d n) (cond (eqb (f.depth n) d) (block a f words n) []) c b
-          ∙ ap₂ or_else
+          ∙ ap₂ option_or
           (level_none d n c b (λ u hu eu ku. let z : u ≡ t = h u (omega arith) eu ku in omega arith))
           (subst (λ (m : ℕ). first (cond (eqb (f.depth m) d) (block a f words m) []) c b ≡ decided (first_word (words t) b)) e
           (ap (λ (x : Bool). first (cond x (block a f words t) []) c b) (eq-eqb (f.depth t) d hd) ∙ block-hit t c b (words t) (eq-eqb (bit_and c (mask f t)) (shade f t) k)))
       | inr ne ↦
           first-++ (level a f words d n) (cond (eqb (f.depth n) d) (block a f words n) []) c b
-          ∙ ap₂ or_else
+          ∙ ap₂ option_or
           (level-hit d n c b t (omega arith) hd k (λ u hu. h u (omega arith)))
           (last_none d n c b (λ e kn. ne (sym (h n (omega arith) e kn))))
-          ∙ or_else_none (decided (first_word (words t) b))
+          ∙ option_or_none (decided (first_word (words t) b))
     ]
 
   -- by the byte rule a state's words, and behind them the table of its parent, give the successor
   by_rule : (s b : ℕ) (rest : Option (StateCode × ℕ)) (o : Option ℕ) → Gives a f s b o →
-      ((p : ℕ) → f.parent s ≡ Some p → rest ≡ Some (decision a f (a.next p b))) → or_else (decided o) rest ≡ Some (decision a f (a.next s b))
+      ((p : ℕ) → f.parent s ≡ Some p → rest ≡ Some (decision a f (a.next p b))) → option_or (decided o) rest ≡ Some (decision a f (a.next s b))
   by_rule s b rest (Some t) g later = ap (λ (n : ℕ). Some (decision a f n)) g
   by_rule s b rest None g later = elim (cases_parent (f.parent s)) [
     | inl e ↦ absurd (subst (λ (o : Option ℕ). Deferrable a o s b) e g)
@@ -121,7 +122,7 @@ module _ (a : Dfa) (f : Forest) (words : ℕ → List ByteWord) (wf : WellFormed
       elim (cases_eq (f.depth t) d) [
         | inl e ↦
             first-++ (level a f words d f.states) (levels a f words d) c b
-            ∙ ap (λ (o : Option (StateCode × ℕ)). or_else o (first (levels a f words d) c b))
+            ∙ ap (λ (o : Option (StateCode × ℕ)). option_or o (first (levels a f words d) c b))
             (level-hit a f words d f.states c b t ht e (above_match f wf t s ht hs h ∙ sym (shade_code f wf t ht))
             (λ u hu eu ku. above_same_depth f wf u t ht (only u hu (omega arith) ku) (omega arith)))
             ∙ by_rule a f t b (first (levels a f words d) c b) (first_word (words t) b) (rule t b ht hb)
@@ -133,7 +134,7 @@ module _ (a : Dfa) (f : Forest) (words : ℕ → List ByteWord) (wf : WellFormed
             ]))
         | inr ne ↦
             first-++ (level a f words d f.states) (levels a f words d) c b
-            ∙ ap (λ (o : Option (StateCode × ℕ)). or_else o (first (levels a f words d) c b))
+            ∙ ap (λ (o : Option (StateCode × ℕ)). option_or o (first (levels a f words d) c b))
             (level_none a f words d f.states c b
             (λ u hu eu ku. let k = above_depth f wf u t ht (only u hu (omega arith) ku) in omega (arith, k)))
             ∙ search_from d t h (omega arith) (λ u hu du ku. only u hu (omega arith) ku)

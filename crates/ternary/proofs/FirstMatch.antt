@@ -2,7 +2,7 @@
 use Rattle.std.proofs.Common.{◌≡◌, ℕ, Bool, true, false, cond, eqb, List, [], ◌∷◌, ◌++◌, Some, None, Decides, Option, refl, ap, ◌∙◌}
 use lib.Bits.{bit_and}
 use Rattle.std.specs.List.{find}
-use Rattle.std.specs.Option.{option_map}
+use Rattle.std.specs.Option.{option_map, option_or}
 use Rattle.std.proofs.lemmas.Bool.Decides.{Decides-and, not_from_Decides}
 use Rattle.ternary.specs.declared.entry.Entry.{Entry}
 use Rattle.ternary.specs.Match.{Matches, Decision, decision, NoneMatch, IsFirst, matches, pick, first}
@@ -22,16 +22,11 @@ first_found (e ∷ es) code byte =
     elim (matches e code byte) as (λ m. option_map decision (cond m (Some e) (find (λ x. matches x code byte) es)) ≡ pick m e (first es code byte))
     [ true ↦ refl | false ↦ first_found es code byte ]
 
--- the first of two answers
-abbrev pub or_else : {X : Type 0} → Option X → Option X → Option X
-or_else None later = later
-or_else (Some x) later = Some x
-
 -- over a list cut in two
-pub first-++ : (es fs : List Entry) (code byte : ℕ) → first (es ++ fs) code byte ≡ or_else (first es code byte) (first fs code byte)
+pub first-++ : (es fs : List Entry) (code byte : ℕ) → first (es ++ fs) code byte ≡ option_or (first es code byte) (first fs code byte)
 first-++ [] fs code byte = refl
 first-++ (e ∷ es) fs code byte =
-    elim (matches e code byte) as (λ m. pick m e (first (es ++ fs) code byte) ≡ or_else (pick m e (first es code byte)) (first fs code byte))
+    elim (matches e code byte) as (λ m. pick m e (first (es ++ fs) code byte) ≡ option_or (pick m e (first es code byte)) (first fs code byte))
     [ true ↦ refl | false ↦ first-++ es fs code byte ]
 
 -- one entry before a list of which the answer is known

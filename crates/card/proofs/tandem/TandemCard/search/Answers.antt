@@ -1,14 +1,12 @@
-use Rattle.card.proofs.InTandem.{found_in_first, left_to_second}
+use Rattle.std.proofs.Common.{rules, ◌≡◌, ap, ◌∙◌}
+use Rattle.std.specs.Option.{option_or}
+use Rattle.ternary.specs.Match.{first}
+use Rattle.card.proofs.InTandem.{first_or}
 use Rattle.card.proofs.tandem.TandemCard.search.Goals as goal
 
-pub returns-in-Some : goal.returns-in-Some
-returns-in-Some g c =
+pub returns : goal.returns
+returns g c =
     let es = g.A.Card.entries c.args.self.now.first in
     let fs = g.B.Card.entries c.args.self.now.second in
-    found_in_first es fs c.args.code.0 c.args.byte c.in-Some.found c.in-Some.ensures
-
-pub returns-in-None : goal.returns-in-None
-returns-in-None g c =
-    let es = g.A.Card.entries c.args.self.now.first in
-    let fs = g.B.Card.entries c.args.self.now.second in
-    left_to_second es fs c.args.code.0 c.args.byte c.search-in-None.result c.in-None.ensures c.search-in-None.ensures
+    let told : c.or_else.result ≡ option_or c.search.result (first fs c.args.code.0 c.args.byte) = search rules in
+    told ∙ (ap (λ r. option_or r (first fs c.args.code.0 c.args.byte)) c.search.ensures ∙ first_or es fs c.args.code.0 c.args.byte)
