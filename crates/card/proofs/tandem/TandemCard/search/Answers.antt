@@ -8,5 +8,5 @@ pub returns : goal.returns
 returns g c =
     let es = g.A.Card.entries c.args.self.now.first in
     let fs = g.B.Card.entries c.args.self.now.second in
-    let told : c.or_else.result ≡ option_or c.search.result (first fs c.args.code.0 c.args.byte) = search rules in
-    told ∙ (ap (λ r. option_or r (first fs c.args.code.0 c.args.byte)) c.search.ensures ∙ first_or es fs c.args.code.0 c.args.byte)
+    let told : c.or_else.result ≡ option_or c.search-found.result (first fs c.args.code.0 c.args.byte) = search rules in
+    told ∙ (ap (λ r. option_or r (first fs c.args.code.0 c.args.byte)) c.search-found.ensures ∙ first_or es fs c.args.code.0 c.args.byte)
