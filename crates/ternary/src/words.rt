@@ -1,5 +1,5 @@
 // A state of an automaton, numbered from 0.
-#[derive(Clone, Copy, PartialEq, Eq, Debug)]
+#[derive(Clone, Copy, Default, PartialEq, Eq, Debug)]
 pub struct StateNo(pub u16);
 
 // The name by which a table knows a state. No function makes a state's code out of its number.
