@@ -1,5 +1,5 @@
 -- From the words of a whole row to its shortest list. Assumes nothing.
-use Rattle.std.proofs.Common.{◌≡◌, ℕ, ◌-◌, ◌<◌, ◌≤◌, Bool, Some, Option, eqb, List, map, length, slice_get, sym, ap, ◌∙◌, subst, arith, eqb-true}
+use Rattle.std.proofs.Common.{◌≡◌, ℕ, ◌+◌, ◌-◌, ◌<◌, ◌≤◌, Bool, Some, Option, eqb, List, [], map, length, slice_get, sym, ap, ◌∙◌, subst, arith, eqb-true}
 use lib.ListN.{length-map}
 use Rattle.std.specs.List.{AllByRecursion}
 use Rattle.ternary.specs.declared.words.StateNo.{StateNo}
@@ -69,3 +69,7 @@ module _ (row : Row) (p : Prefix) (w0 w1 : Subtrees) (i : ℕ) (of_row : w0.row 
 
   pub root_words : (above : Option StateNo) → words_for w1.row p above ≡ words_for row p above
   root_words above = ap (λ (r : Row). words_for r p above) row_stays
+
+  -- there is room for the words of the prefix
+  pub root_room : (words : List (PrefixWord StateNo)) → words ≡ [] → (above : Option StateNo) → length (words_for row p above) ≤ 256 → length words + length (words_for w1.row p above) ≤ 256
+  root_room words none above h = rw (none, root_words above) (omega arith)

@@ -29,9 +29,8 @@ pub fn shortest_list(
     ensures formed { AllByRecursion Formed result.items }
     ensures bound { array_vec_len result ≤ 256 }
 {
-    let successors = row;
     let mut subtrees = Subtrees::new(Row {
-        successors,
+        successors: row,
         deferrable,
     });
     let root = subtrees.add(Prefix::ALL);
@@ -45,9 +44,8 @@ pub fn shortest_length(row: &[StateNo; 256], deferrable: &[bool; 256]) -> usize
     ensures fewest { Fewest result (successors row.now) (flags deferrable.now) }
     ensures bound { result ≤ 256 }
 {
-    let successors = row;
     let mut subtrees = Subtrees::new(Row {
-        successors,
+        successors: row,
         deferrable,
     });
     let root = subtrees.add(Prefix::ALL);

@@ -6,7 +6,7 @@ use Rattle.prefix.specs.Words.{Formed, Shortest}
 use Rattle.prefix.specs.States.{flags, successors}
 use Rattle.prefix.specs.Listed.{chosen, numbered, words_for}
 use Rattle.prefix.proofs.Choosing.{chosen_formed, chosen-shortest}
-use Rattle.prefix.proofs.Listing.{all_bytes, list, list≤, root_stands, root_words}
+use Rattle.prefix.proofs.Listing.{all_bytes, list, list≤, root_stands, root_words, root_room}
 use Rattle.prefix.proofs.lists.shortest_list.Goals as goal
 
 pub emit-requires : goal.emit-requires
@@ -17,8 +17,7 @@ emit-requires c =
       inside = (lit≤ tt, lit< tt);
       stands = root_stands _ all_bytes c.new-subtrees.result c.add-root.new.self c.add-root.result c.new-subtrees.ensures.row c.add-root.ensures;
       room =
-          let words = root_words _ all_bytes c.new-subtrees.result c.add-root.new.self c.add-root.result c.new-subtrees.ensures.row c.add-root.ensures None in
-          omega (arith, ap length c.new-words.ensures, ap length words, list≤ row marked);
+          root_room _ all_bytes c.new-subtrees.result c.add-root.new.self c.add-root.result c.new-subtrees.ensures.row c.add-root.ensures c.new-words.result.items c.new-words.ensures None (list≤ row marked);
     }
 
 pub returns : goal.returns
