@@ -8,8 +8,8 @@ use Rattle.prefix.specs.declared.trees.Halves.{Halves}
 use Rattle.prefix.specs.declared.trees.Prefix.{Prefix}
 use Rattle.prefix.specs.declared.trees.Row.{Row}
 use Rattle.prefix.specs.declared.trees.Subtrees.{Subtrees}
-use Rattle.prefix.specs.Tree.{Tree, Mark, here, leaf, node, has, candidates, best, halves, closed}
-use Rattle.prefix.specs.Row.{build, subtree, word, placed}
+use Rattle.prefix.specs.Tree.{Tree, here, leaf, node, has, best, halves, closed}
+use Rattle.prefix.specs.Row.{build, placed}
 use Rattle.prefix.specs.States.{state_no, flags}
 use Rattle.prefix.specs.Listed.{numbered, stated, word_for, low_half, high_half, tree_at, marks, bare_under, cover, words_for, closing}
 use Rattle.prefix.specs.Parts.{Inside}

@@ -1,5 +1,5 @@
 -- From the words of a whole row to its shortest list. Assumes nothing.
-use Rattle.std.proofs.Common.{◌≡◌, ℕ, ◌+◌, ◌-◌, ◌<◌, ◌≤◌, Bool, Some, Option, eqb, List, [], map, length, slice_get, sym, ap, ◌∙◌, subst, arith, eqb-true}
+use Rattle.std.proofs.Common.{◌≡◌, ℕ, ◌+◌, ◌<◌, ◌≤◌, Bool, Some, Option, eqb, List, [], map, length, slice_get, sym, ap, ◌∙◌, subst, arith, eqb-true}
 use lib.ListN.{length-map}
 use Rattle.std.specs.List.{AllByRecursion}
 use Rattle.ternary.specs.declared.words.StateNo.{StateNo}

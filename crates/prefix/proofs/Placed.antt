@@ -1,10 +1,8 @@
 -- The emitted words of a prefix, by those of its two longer prefixes. Assumes nothing.
-use Rattle.std.proofs.Common.{◌≡◌, ℕ, suc, ◌+◌, ◌-◌, ◌*◌, ◌<◌, Bool, true, false, eqb, leb, List, [], ◌∷◌, ◌++◌, map, sym, refl, ap, ◌∙◌, arith}
-use mathlib.Core.Path.{subst⁻¹}
+use Rattle.std.proofs.Common.{◌≡◌, ℕ, suc, ◌+◌, ◌-◌, ◌*◌, ◌<◌, List, [], ◌∷◌, ◌++◌, map, refl, ap, ◌∙◌, arith}
 use Rattle.prefix.specs.declared.word.PrefixWord.{PrefixWord}
-use Rattle.prefix.specs.Tree.{Tree, node, Mark, here, low, high, halves, closed, has, candidates, base, least, best, emit_under, emit}
-use Rattle.prefix.specs.Row.{subtree, word, placed}
-use Rattle.prefix.proofs.Prefixes.{subtree-halves}
+use Rattle.prefix.specs.Tree.{Mark, here, low, high, halves, closed}
+use Rattle.prefix.specs.Row.{word, placed}
 
 pub map-append : {X Y : Type 0} (f : X → Y) (xs ys : List X) → map f (xs ++ ys) ≡ map f xs ++ map f ys
 map-append f [] ys = refl

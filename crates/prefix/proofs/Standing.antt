@@ -1,18 +1,17 @@
 -- Nodes that stand for trees, in a list of nodes that grows. Assumes nothing.
-use Rattle.std.proofs.Common.{◌≡◌, ℕ, zero, suc, ◌+◌, ◌-◌, ◌*◌, ◌^◌, ◌<◌, ◌≤◌, Bool, Some, None, cond, eqb, leb, List, [], ◌∷◌, ◌++◌, length, get_or, slice_get, sym, refl, ap, ◌∙◌, subst, append_assoc, add_assoc, arith, length-append}
+use Rattle.std.proofs.Common.{◌≡◌, ℕ, zero, suc, ◌+◌, ◌-◌, ◌*◌, ◌^◌, ◌<◌, ◌≤◌, Bool, Some, eqb, List, [], ◌∷◌, ◌++◌, length, slice_get, sym, refl, ap, ◌∙◌, subst, append_assoc, arith, length-append}
 use Rattle.std.proofs.lemmas.Option.{slice_get_within, slice_get-get_or, get_or_from_slice_get}
 use Rattle.std.proofs.lemmas.List.{get_or_append_left}
 use Rattle.std.proofs.Math.Seq.{get_or-append_seam}
 use Rattle.prefix.specs.declared.trees.Node.{Node}
-use Rattle.prefix.specs.declared.trees.Halves.{Halves}
 use Rattle.prefix.specs.declared.trees.Prefix.{Prefix}
 use Rattle.prefix.specs.declared.trees.Row.{Row}
 use Rattle.prefix.specs.declared.trees.Subtrees.{Subtrees}
-use Rattle.prefix.specs.Tree.{Tree, leaf, node, common, either, base, least, candidates}
-use Rattle.prefix.specs.Row.{build, subtree}
+use Rattle.prefix.specs.Tree.{Tree, leaf, node, common, either, base, candidates}
+use Rattle.prefix.specs.Row.{build}
 use Rattle.prefix.specs.States.{flags}
 use Rattle.prefix.specs.Listed.{numbered, tree_at, low_half, high_half}
-use Rattle.prefix.specs.Parts.{part_of, Inside}
+use Rattle.prefix.specs.Parts.{Inside}
 use Rattle.prefix.specs.Subtrees.{Says, Joined, Stands, Added, merged, nodes_in, states_in, room}
 use Rattle.prefix.proofs.Bytes.{double}
 use Rattle.prefix.proofs.Parts.{length_range, range_kept, range_last, common≤}

@@ -1,4 +1,4 @@
-use Rattle.std.proofs.Common.{◌≡◌, ◌+◌, ◌<◌, ◌≤◌, ◌++◌, length, sym, ap, ◌∙◌, subst, arith, append_assoc, length-append}
+use Rattle.std.proofs.Common.{◌++◌, length, sym, ap, ◌∙◌, arith, length-append}
 use Rattle.prefix.specs.Listed.{words_for, closing}
 use Rattle.prefix.proofs.Standing.{low_fits, high_fits}
 use Rattle.prefix.proofs.Emitting.{covering_is, some_candidates, turn, words_byte, byte_alone, appended_in_turn}
