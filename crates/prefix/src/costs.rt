@@ -1,20 +1,18 @@
 // The costs of the subtrees of a row.
-ghost use Rattle.std.specs.Prelude.{◌≡◌, ◌+◌, ◌-◌, ◌*◌, ◌^◌, ◌<◌, ◌≤◌, [], ◌∷◌, ◌++◌, cond, length, nat_eq, slice_get};
+ghost use Rattle.std.specs.Prelude.{◌≡◌, ◌+◌, ◌-◌, ◌*◌, ◌^◌, ◌<◌, ◌≤◌, [], ◌∷◌, ◌++◌, cond, nat_eq, slice_get};
 ghost use Rattle.arrayvec.specs.ArrayVec.{array_vec_len};
 ghost use Rattle.prefix.specs.Tree.{leaf, common, either, extra};
-ghost use Rattle.prefix.specs.Row.{subtree};
 ghost use Rattle.prefix.specs.States.{flags};
 ghost use Rattle.prefix.specs.Listed.{numbered, tree_at};
 ghost use Rattle.prefix.specs.Parts.{Inside, part_of};
 ghost use Rattle.prefix.specs.Subtrees.{Says, Joined, Added, room as states_at_most};
 
-use crate::sets::{Part, append_common, append_part};
+use crate::sets::{Part, States, append_common, append_part};
 use crate::trees::{Halves, Node, Prefix, Subtrees};
-use arrayvec::ArrayVec;
 
 // Appends the candidates of a subtree from those of its halves: those in common, or all of both where there are none.
 // Answers whether there are none.
-fn append_candidates(states: &mut ArrayVec<u16, 2304>, low: Part, high: Part) -> bool
+fn append_candidates(states: &mut States, low: Part, high: Part) -> bool
     requires inside { Inside (array_vec_len states.old) low × Inside (array_vec_len states.old) high }
     requires room { array_vec_len states.old + (low.end - low.first) + (high.end - high.first) ≤ 2304 }
     ensures apart { cond result 1 0 ≡ extra (common nat_eq (part_of states.old.items low) (part_of states.old.items high)) }
@@ -32,7 +30,7 @@ fn append_candidates(states: &mut ArrayVec<u16, 2304>, low: Part, high: Part) ->
 
 impl Node {
     // The node of a whole from those of its halves. Its candidates are appended to the states.
-    fn of_halves(low: Node, high: Node, halves: Halves, states: &mut ArrayVec<u16, 2304>) -> Node
+    fn of_halves(low: Node, high: Node, halves: Halves, states: &mut States) -> Node
         requires small { (low.base < 2 ^ 16) × (high.base < 2 ^ 16) × (low.least < 2 ^ 16) × (high.least < 2 ^ 16) }
         requires inside { Inside (array_vec_len states.old) low.candidates × Inside (array_vec_len states.old) high.candidates }
         requires room { array_vec_len states.old + (low.candidates.end - low.candidates.first) + (high.candidates.end - high.candidates.first) ≤ 2304 }

@@ -5,6 +5,9 @@ ghost use Rattle.arrayvec.specs.ArrayVec.{array_vec_len};
 
 use arrayvec::ArrayVec;
 
+// States by their numbers. The nodes of a row have 256 candidates at most at each of the nine lengths of a prefix.
+pub(crate) type States = ArrayVec<u16, 2304>;
+
 // Some of the states that stand one after another: those from `first` on, up to `end`.
 #[derive(Clone, Copy, Default)]
 pub(crate) struct Part {
@@ -23,7 +26,7 @@ impl Part {
 }
 
 // Appends the states of `low` that are among those of `high` too.
-pub(crate) fn append_common(states: &mut ArrayVec<u16, 2304>, low: Part, high: Part)
+pub(crate) fn append_common(states: &mut States, low: Part, high: Part)
     requires inside { Inside (array_vec_len states.old) low × Inside (array_vec_len states.old) high }
     requires room { array_vec_len states.old + (low.end - low.first) ≤ 2304 }
     ensures { states.new.items ≡ states.old.items ++ common nat_eq (part_of states.old.items low) (part_of states.old.items high) }
@@ -38,7 +41,7 @@ pub(crate) fn append_common(states: &mut ArrayVec<u16, 2304>, low: Part, high: P
 }
 
 // Appends the states of `part`.
-pub(crate) fn append_part(states: &mut ArrayVec<u16, 2304>, part: Part)
+pub(crate) fn append_part(states: &mut States, part: Part)
     requires inside { Inside (array_vec_len states.old) part }
     requires room { array_vec_len states.old + (part.end - part.first) ≤ 2304 }
     ensures { states.new.items ≡ states.old.items ++ part_of states.old.items part }

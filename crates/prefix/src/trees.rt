@@ -2,7 +2,7 @@
 ghost use Rattle.std.specs.Prelude.{◌≡◌, ◌^◌, ◌<◌, []};
 ghost use Rattle.prefix.specs.Listed.{low_half, high_half};
 
-use crate::sets::Part;
+use crate::sets::{Part, States};
 use arrayvec::ArrayVec;
 use ternary::words::StateNo;
 
@@ -67,7 +67,7 @@ pub(crate) struct Node {
 pub(crate) struct Subtrees<'a> {
     pub row: Row<'a>,
     pub nodes: ArrayVec<Node, 511>,
-    pub candidates: ArrayVec<u16, 2304>,
+    pub candidates: States,
 }
 
 impl<'a> Subtrees<'a> {
