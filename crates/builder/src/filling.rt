@@ -46,15 +46,9 @@ fn gather_state(
     requires known { state.0 < automaton.states }
     ensures { Gathers gathered.old gathered.new (map (entry_for (dfa (handed automaton.entry)) state.0) (lists_of (dfa (handed automaton.entry)) state.0)) result }
 {
-    let blank = PrefixWord {
-        bits: 0,
-        value: 0,
-        next: StateNo(0),
-    };
-    let mut words = [blank; 256];
     let parent = place_of(plan, state).parent;
-    let count = list_of(automaton, state, parent, &mut words);
-    gather_words(automaton, plan, state, &words[0..count], gathered)
+    let words = list_of(automaton, state, parent);
+    gather_words(automaton, plan, state, &words, gathered)
 }
 
 // Gathers the entries of the states at a depth, lower numbers first.

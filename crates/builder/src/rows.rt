@@ -1,11 +1,12 @@
 // The row of a state, its deferrable bytes and its prefix list.
-ghost use Rattle.std.specs.Prelude.{◌≡◌, ℕ, ◌<◌, ◌≤◌, take};
+ghost use Rattle.std.specs.Prelude.{◌≡◌, ℕ, ◌<◌};
 ghost use Rattle.automaton.specs.Limits.{handed, Within, dfa};
 ghost use Rattle.prefix.specs.Listed.{chosen};
 ghost use Rattle.prefix.specs.States.{flags, successors};
 ghost use Rattle.builder.specs.Gathering.{Below, number_of};
 ghost use Rattle.builder.specs.Lists.{row, shared_with};
 
+use arrayvec::ArrayVec;
 use automaton::words::Automaton;
 use prefix::lists::{shared_bytes, shortest_list};
 use prefix::word::PrefixWord;
@@ -36,20 +37,17 @@ fn deferrable_of(automaton: Automaton<'_>, state: StateNo, parent: Option<StateN
     }
 }
 
-// Puts the prefix list of a state into the first places of `words`, and answers how many words it has.
+// The prefix list of a state.
 pub(crate) fn list_of(
     automaton: Automaton<'_>,
     state: StateNo,
     parent: Option<StateNo>,
-    words: &mut [PrefixWord<StateNo>; 256],
-) -> usize
+) -> ArrayVec<PrefixWord<StateNo>, 256>
     requires within { Within (handed automaton) }
     requires known { (state.0 < automaton.states) × Below automaton.states (number_of parent) }
-    ensures words { take result words.new ≡ chosen ((dfa (handed automaton.entry)).next state.0) (shared_with (dfa (handed automaton.entry)) (number_of parent) state.0) }
-    ensures bound { result ≤ 256 }
+    ensures { result.items ≡ chosen ((dfa (handed automaton.entry)).next state.0) (shared_with (dfa (handed automaton.entry)) (number_of parent) state.0) }
 {
-    let mut work = [0; 4096];
     let own = row_of(automaton, state);
     let deferrable = deferrable_of(automaton, state, parent);
-    shortest_list(&own, &deferrable, &mut work, words)
+    shortest_list(&own, &deferrable)
 }

@@ -1,3 +1,6 @@
+pub mod Standing
+pub mod Made
+pub mod Parts
 pub mod Halves
 pub mod Lower
 pub mod Upper
@@ -6,11 +9,8 @@ pub mod Prefixes
 pub mod Placed
 pub mod Formed
 pub mod Masking
-pub mod Memory
-pub mod Filling
-pub mod Opening
-pub mod Emitting
 pub mod Redecided
+pub mod Decided
+pub mod Emitting
 pub mod Listing
 pub mod Choosing
-pub mod Decided

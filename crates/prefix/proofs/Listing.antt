@@ -1,40 +1,30 @@
--- From the memory and the words of a whole row to its shortest list. Assumes nothing.
-use Rattle.std.proofs.Common.{◌≡◌, ℕ, ◌-◌, ◌<◌, ◌≤◌, Bool, eqb, List, [], map, length, sym, ap, ◌∙◌, arith, eqb-true}
+-- From the words of a whole row to its shortest list. Assumes nothing.
+use Rattle.std.proofs.Common.{◌≡◌, ℕ, ◌+◌, ◌<◌, ◌≤◌, Bool, Some, Option, eqb, List, [], map, length, slice_get, sym, ap, ◌∙◌, subst, arith, eqb-true}
 use lib.ListN.{length-map}
 use Rattle.std.specs.List.{AllByRecursion}
 use Rattle.ternary.specs.declared.words.StateNo.{StateNo}
-use Rattle.prefix.specs.declared.costs.Costs.{Costs}
 use Rattle.prefix.specs.declared.word.PrefixWord.{PrefixWord}
+use Rattle.prefix.specs.declared.trees.Node.{Node}
+use Rattle.prefix.specs.declared.trees.Prefix.{Prefix}
+use Rattle.prefix.specs.declared.trees.Row.{Row}
+use Rattle.prefix.specs.declared.trees.Subtrees.{Subtrees}
 use Rattle.prefix.specs.Words.{Formed, Shortest, Fewest}
 use Rattle.prefix.specs.States.{state_no}
 use Rattle.prefix.specs.Tree.{least}
 use Rattle.prefix.specs.Row.{subtree, shortest}
-use Rattle.prefix.specs.Cells.{room, Ends}
-use Rattle.prefix.specs.Filled.{Filled}
-use Rattle.prefix.specs.Listed.{stated}
+use Rattle.prefix.specs.Listed.{stated, tree_at, words_for}
+use Rattle.prefix.specs.Subtrees.{Stands, Added}
 use Rattle.prefix.proofs.Bytes.{eqb_same, shortest_stands, shortest-length, fewest}
 use Rattle.prefix.proofs.Formed.{formed_shortest}
 use Rattle.prefix.proofs.Prefixes.{small}
-use Rattle.prefix.proofs.Filling.{prefix≤}
+use Rattle.prefix.proofs.Standing.{stands_below, stands_says}
 use Rattle.prefix.proofs.Redecided.{shortest_redecided, formed_redecided}
-
--- the memory has room for the cells of a row's tree
-pub wide : (work : List ℕ) → length work ≡ 4096 → room (8 - 0) ≤ length work
-wide work e = omega arith
 
 -- a number that is another's
 pub bounded : (n m : ℕ) → n ≡ m → m ≤ 256 → n ≤ 256
 bounded n m e h = omega arith
 
 module _ (row : ℕ → ℕ) (deferrable : ℕ → Bool) where
-  -- where the cells of the row's tree end
-  pub root_ends : (bits v : ℕ) (before after : List ℕ) (c : Costs) → room (8 - bits) ≤ length after → Filled before after 0 c (subtree row deferrable bits v) → Ends after c.end (subtree row deferrable bits v)
-  root_ends bits v before after c wide p = record {
-    front = [];
-    stands = p.stored;
-    within = omega (arith, p.ends, prefix≤ row deferrable bits v);
-  }
-
   -- the words of the whole row
   abbrev pub list : List (PrefixWord StateNo)
   list = map stated (shortest 0 eqb row deferrable)
@@ -58,3 +48,28 @@ module _ (row : ℕ → ℕ) (deferrable : ℕ → Bool) where
 
     pub list_fewest : (count : ℕ) → count ≡ least eqb (subtree row deferrable 0 0) → Fewest count states deferrable
     list_fewest count e = fewest list states deferrable count list_shortest (e ∙ sym list_length)
+
+-- the prefix of all bytes
+abbrev pub all_bytes : Prefix
+all_bytes = record { bits = 0; value = 0 }
+
+-- the tree of a prefix, once it is added to no subtree
+module _ (row : Row) (p : Prefix) (w0 w1 : Subtrees) (i : ℕ) (of_row : w0.row ≡ row) (a : Added w0 w1 i (tree_at w0.row p)) where
+  row_stays : w1.row ≡ row
+  row_stays = a.row_is ∙ of_row
+
+  pub root_stands : Stands w1.nodes.items w1.candidates.items i (tree_at w1.row p)
+  root_stands = subst (λ (r : Row). Stands w1.nodes.items w1.candidates.items i (tree_at r p)) (sym a.row_is) a.stands
+
+  pub root_below : i < length w1.nodes.items
+  root_below = stands_below w1.nodes.items w1.candidates.items i (tree_at w1.row p) root_stands
+
+  pub root_least : (n : Node) → slice_get w1.nodes.items i ≡ Some n → n.least ≡ least eqb (tree_at row p)
+  root_least n at = (stands_says w1.nodes.items w1.candidates.items i (tree_at w1.row p) n at root_stands).least_is ∙ ap (λ (r : Row). least eqb (tree_at r p)) row_stays
+
+  pub root_words : (above : Option StateNo) → words_for w1.row p above ≡ words_for row p above
+  root_words above = ap (λ (r : Row). words_for r p above) row_stays
+
+  -- there is room for the words of the prefix
+  pub root_room : (words : List (PrefixWord StateNo)) → words ≡ [] → (above : Option StateNo) → length (words_for row p above) ≤ 256 → length words + length (words_for w1.row p above) ≤ 256
+  root_room words none above h = rw (none, root_words above) (omega arith)

@@ -3,8 +3,6 @@ pub mod States
 pub mod Masks
 pub mod Tree
 pub mod Row
-pub mod Cells
 pub mod Parts
-pub mod Filled
-pub mod Reading
+pub mod Subtrees
 pub mod Listed

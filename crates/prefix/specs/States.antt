@@ -1,5 +1,5 @@
 -- The rows of an automaton, whose decisions are states. Assumes nothing.
-use Rattle.std.specs.Prelude.{ℕ, Bool, false, List, ◌==◌, slice_index, slice_index_or}
+use Rattle.std.specs.Prelude.{ℕ, Bool, false, List, ◌==◌, slice_index_or}
 use Rattle.ternary.specs.declared.words.StateNo.{StateNo}
 
 -- the state of that number
@@ -17,7 +17,3 @@ shares row other byte = (successors row byte).0 == (successors other byte).0
 -- whether a byte is marked
 abbrev pub flags : List Bool → ℕ → Bool
 flags marked byte = slice_index_or marked byte false
-
--- a row by the numbers of its states
-abbrev pub numbers : List ℕ → ℕ → ℕ
-numbers row byte = slice_index row byte

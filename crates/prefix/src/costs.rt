@@ -1,131 +1,122 @@
-ghost use Rattle.std.specs.Prelude.{◌≡◌, ◌+◌, ◌-◌, ◌^◌, ◌<◌, ◌≤◌, [], ◌∷◌, ◌++◌, length, nat_eq};
-ghost use Rattle.prefix.specs.Tree.{common, either, extra as extra_of, leaf};
-ghost use Rattle.prefix.specs.Cells.{Appended, room as cells_at_most};
-ghost use Rattle.prefix.specs.Parts.{part_of};
-ghost use Rattle.prefix.specs.Filled.{Joined, Filled};
-ghost use Rattle.prefix.specs.Row.{subtree};
-ghost use Rattle.prefix.specs.States.{numbers, flags};
+// The costs of the subtrees of a row.
+ghost use Rattle.std.specs.Prelude.{◌≡◌, ◌+◌, ◌-◌, ◌*◌, ◌^◌, ◌<◌, ◌≤◌, [], ◌∷◌, ◌++◌, cond, nat_eq, slice_get};
+ghost use Rattle.arrayvec.specs.ArrayVec.{array_vec_len};
+ghost use Rattle.prefix.specs.Tree.{leaf, common, either, extra};
+ghost use Rattle.prefix.specs.States.{flags};
+ghost use Rattle.prefix.specs.Listed.{numbered, tree_at};
+ghost use Rattle.prefix.specs.Parts.{Inside, part_of};
+ghost use Rattle.prefix.specs.Subtrees.{Says, Joined, Added, room as states_at_most};
 
-use crate::sets::{Part, append_common, append_part};
+use crate::sets::{Part, States, append_common, append_part};
+use crate::trees::{Halves, Node, Prefix, Subtrees};
 
-// What a subtree of a row costs in words, and where it stands in the working memory.
-#[derive(Clone, Copy)]
-pub(crate) struct Costs {
-    // the cost below a word that covers the subtree and decides one of the candidates; any other decision costs one more
-    pub base: u32,
-    // the cost below no word
-    pub least: u32,
-    pub candidates: Part,
-    // where its cells end
-    pub end: usize,
-}
-
-// How many candidates two halves have together, and what they cost beyond their own costs.
-#[derive(Clone, Copy)]
-pub(crate) struct Merged {
-    pub count: usize,
-    pub extra: u32,
-}
-
-// Appends, at `end`, the candidates of a subtree from those of its halves: those in common, or all of both where there are none.
-pub(crate) fn append_candidates(work: &mut [u32], low: Part, high: Part, end: usize) -> Merged
-    requires inside { (low.first + low.count ≤ end) × (high.first + high.count ≤ end) }
-    requires room { end + low.count + high.count ≤ length work.old }
-    ensures few { result.count ≤ low.count + high.count }
-    ensures costs { result.extra ≡ extra_of (common nat_eq (part_of work.old low) (part_of work.old high)) }
-    ensures stores { Appended work.old work.new end result.count (either (common nat_eq (part_of work.old low) (part_of work.old high)) (part_of work.old low) (part_of work.old high)) }
+// Appends the candidates of a subtree from those of its halves: those in common, or all of both where there are none.
+// Answers whether there are none.
+fn append_candidates(states: &mut States, low: Part, high: Part) -> bool
+    requires inside { Inside (array_vec_len states.old) low × Inside (array_vec_len states.old) high }
+    requires room { array_vec_len states.old + (low.end - low.first) + (high.end - high.first) ≤ 2304 }
+    ensures apart { cond result 1 0 ≡ extra (common nat_eq (part_of states.old.items low) (part_of states.old.items high)) }
+    ensures stores { states.new.items ≡ states.old.items ++ either (common nat_eq (part_of states.old.items low) (part_of states.old.items high)) (part_of states.old.items low) (part_of states.old.items high) }
 {
-    let shared = append_common(work, low, high, end);
-    if shared > 0 {
-        return Merged {
-            count: shared,
-            extra: 0,
-        };
+    let first = states.len();
+    append_common(states, low, high);
+    let apart = states.len() == first;
+    if apart {
+        append_part(states, low);
+        append_part(states, high);
     }
-    append_part(work, low, end);
-    append_part(work, high, end + low.count);
-    Merged {
-        count: low.count + high.count,
-        extra: 1,
-    }
+    apart
 }
 
-// Appends three cells at `end`.
-pub(crate) fn append_three(work: &mut [u32], end: usize, a: u32, b: u32, c: u32)
-    requires { end + 3 ≤ length work.old }
-    ensures { Appended work.old work.new end 3 (a ∷ b ∷ c ∷ []) }
-{
-    work[end] = a;
-    work[end + 1] = b;
-    work[end + 2] = c;
-}
-
-// The costs of a subtree from those of its halves.
-pub(crate) fn of_halves(work: &mut [u32; 4096], low: Costs, high: Costs) -> Costs
-    requires small { (low.base < 2 ^ 16) × (high.base < 2 ^ 16) × (low.least < 2 ^ 16) × (high.least < 2 ^ 16) }
-    requires inside { (low.candidates.first + low.candidates.count ≤ low.end) × (high.candidates.first + high.candidates.count ≤ high.end) × (low.end ≤ high.end) }
-    requires room { high.end + low.candidates.count + high.candidates.count + 3 ≤ 4096 }
-    ensures { Joined work.old work.new low high result }
-{
-    let first = high.end;
-    let merged = append_candidates(work, low.candidates, high.candidates, first);
-    let base = low.base + high.base + merged.extra;
-    let split = low.least + high.least;
-    let splits = if split <= base + 1 { 1 } else { 0 };
-    append_three(
-        work,
-        first + merged.count,
-        (high.end - low.end) as u32,
-        splits,
-        merged.count as u32,
-    );
-    Costs {
-        base,
-        least: split.min(base + 1),
-        candidates: Part {
-            first,
-            count: merged.count,
-        },
-        end: first + merged.count + 3,
+impl Node {
+    // The node of a whole from those of its halves. Its candidates are appended to the states.
+    fn of_halves(low: Node, high: Node, halves: Halves, states: &mut States) -> Node
+        requires small { (low.base < 2 ^ 16) × (high.base < 2 ^ 16) × (low.least < 2 ^ 16) × (high.least < 2 ^ 16) }
+        requires inside { Inside (array_vec_len states.old) low.candidates × Inside (array_vec_len states.old) high.candidates }
+        requires room { array_vec_len states.old + (low.candidates.end - low.candidates.first) + (high.candidates.end - high.candidates.first) ≤ 2304 }
+        ensures joined { Joined states.old.items states.new.items low high result }
+        ensures halves { result.halves ≡ Some halves }
+    {
+        let first = states.len();
+        let apart = append_candidates(states, low.candidates, high.candidates);
+        let base = low.base + high.base + u32::from(apart);
+        let split = low.least + high.least;
+        Node {
+            base,
+            least: split.min(base + 1),
+            bare: split <= base + 1,
+            candidates: Part {
+                first,
+                end: states.len(),
+            },
+            halves: Some(halves),
+        }
     }
 }
 
-// The costs of one byte, whose cells are appended at `used`.
-pub(crate) fn of_byte(work: &mut [u32; 4096], used: usize, next: u16, deferrable: bool) -> Costs
-    requires { used + 4 ≤ 4096 }
-    ensures { Filled work.old work.new used result (leaf next deferrable) }
-{
-    work[used] = next as u32;
-    append_three(work, used + 1, 0, 0, 1);
-    let least = if deferrable { 0 } else { 1 };
-    Costs {
-        base: 0,
-        least,
-        candidates: Part {
-            first: used,
-            count: 1,
-        },
-        end: used + 4,
+impl Subtrees<'_> {
+    // The node of one byte. Its state is appended to the states.
+    fn byte(&mut self, value: u8) -> Node
+        requires { array_vec_len self.old.candidates < 2304 }
+        ensures says { Says self.new.candidates.items result (leaf (numbered self.old.row.successors.now value) (flags self.old.row.deferrable.now value)) }
+        ensures alone { result.halves ≡ None }
+        ensures rest { (self.new.row ≡ self.old.row) × (self.new.nodes ≡ self.old.nodes) × (self.new.candidates.items ≡ self.old.candidates.items ++ numbered self.old.row.successors.now value ∷ []) }
+    {
+        let first = self.candidates.len();
+        self.candidates.push(self.row.successors[value as usize].0);
+        let deferrable = self.row.deferrable[value as usize];
+        Node {
+            base: 0,
+            least: u32::from(!deferrable),
+            bare: deferrable,
+            candidates: Part {
+                first,
+                end: first + 1,
+            },
+            halves: None,
+        }
     }
-}
 
-// The costs of the bytes whose first `bits` bits are `value`; the cells of their tree are appended at `used`.
-pub(crate) fn of_prefix(
-    row: &[u16; 256],
-    deferrable: &[bool; 256],
-    bits: u8,
-    value: u8,
-    work: &mut [u32; 4096],
-    used: usize,
-) -> Costs
-    requires inside { (bits ≤ 8) × (value < 2 ^ bits) }
-    requires room { used + cells_at_most (8 - bits) ≤ 4096 }
-    ensures { Filled work.old work.new used result (subtree (numbers row.now) (flags deferrable.now) bits value) }
-{
-    if bits == 8 {
-        return of_byte(work, used, row[value as usize], deferrable[value as usize]);
+    // The node of a number.
+    pub(crate) fn node(&self, number: usize) -> Node
+        requires { number < array_vec_len self.now.nodes }
+        ensures { slice_get self.now.nodes.items number ≡ Some result }
+    {
+        self.nodes[number]
     }
-    let low = of_prefix(row, deferrable, bits + 1, 2 * value, work, used);
-    let high = of_prefix(row, deferrable, bits + 1, 2 * value + 1, work, low.end);
-    of_halves(work, low, high)
+
+    // Adds a node, and answers its number.
+    fn push(&mut self, node: Node) -> usize
+        requires { array_vec_len self.old.nodes < 511 }
+        ensures number { result ≡ array_vec_len self.old.nodes }
+        ensures nodes { self.new.nodes.items ≡ self.old.nodes.items ++ node ∷ [] }
+        ensures rest { (self.new.row ≡ self.old.row) × (self.new.candidates ≡ self.old.candidates) }
+    {
+        let number = self.nodes.len();
+        self.nodes.push(node);
+        number
+    }
+
+    // Adds the subtree of a prefix, and answers the number of its node.
+    pub(crate) fn add(&mut self, prefix: Prefix) -> usize
+        requires inside { (prefix.bits ≤ 8) × (prefix.value < 2 ^ prefix.bits) }
+        requires room { (array_vec_len self.old.nodes + 2 * 2 ^ (8 - prefix.bits) ≤ 512) × (array_vec_len self.old.candidates + states_at_most (8 - prefix.bits) ≤ 2304) }
+        ensures { Added self.old self.new result (tree_at self.old.row prefix) }
+    {
+        if prefix.bits == 8 {
+            let node = self.byte(prefix.value);
+            return self.push(node);
+        }
+        let (lower, upper) = prefix.halves();
+        let low = self.add(lower);
+        let high = self.add(upper);
+        let halves = Halves { low, high };
+        let node = Node::of_halves(
+            self.node(low),
+            self.node(high),
+            halves,
+            &mut self.candidates,
+        );
+        self.push(node)
+    }
 }

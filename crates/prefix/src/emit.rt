@@ -1,93 +1,78 @@
-ghost use Rattle.std.specs.Prelude.{◌≡◌, ◌+◌, ◌^◌, ◌<◌, ◌≤◌, [], ◌∷◌, ◌++◌, length};
-ghost use Rattle.prefix.specs.Cells.{Ends, Emitted};
-ghost use Rattle.prefix.specs.Listed.{word_for, tree_at, words_under, words_at};
-ghost use Rattle.prefix.specs.States.{numbers, flags};
+// The words of a shortest list, from the nodes of a row's subtrees.
+ghost use Rattle.std.specs.Prelude.{◌≡◌, ◌+◌, ◌^◌, ◌<◌, ◌≤◌, ◌++◌, length};
+ghost use Rattle.arrayvec.specs.ArrayVec.{array_vec_len};
+ghost use Rattle.prefix.specs.Listed.{tree_at, words_for, closing};
+ghost use Rattle.prefix.specs.Parts.{Inside};
+ghost use Rattle.prefix.specs.Subtrees.{Stands, bare_in, covering_in};
 
-use crate::place::{Place, read};
-use crate::sets::contains;
+use crate::trees::{Node, Prefix, Subtrees};
 use crate::word::PrefixWord;
+use arrayvec::ArrayVec;
 use ternary::words::StateNo;
 
-// Puts a word for the bytes of a place after the first `used` words, and answers how many there are then.
-pub(crate) fn push(
-    out: &mut [PrefixWord<StateNo>; 256],
-    used: usize,
-    place: Place,
-    next: u16,
-) -> usize
-    requires { used < 256 }
-    ensures { Emitted out.old out.new used result (word_for place next ∷ []) }
-{
-    out[used] = PrefixWord {
-        bits: place.bits,
-        value: place.value,
-        next: StateNo(next),
-    };
-    used + 1
+impl Node {
+    // Whether a shortest list below a word that decides `above`, if there is one, has no word that covers the subtree.
+    fn bare_under(self, states: &[u16], above: Option<StateNo>) -> bool
+        requires { Inside (length states.now) self.candidates }
+        ensures { result ≡ bare_in states.now self above }
+    {
+        match above {
+            None => self.bare,
+            Some(state) => self.candidates.of(states).contains(&state.0),
+        }
+    }
+
+    // The decision of a word that covers the subtree, where a shortest list below `above` has one.
+    fn covering(self, states: &[u16], above: Option<StateNo>) -> Option<StateNo>
+        requires { (self.candidates.first < self.candidates.end) × Inside (length states.now) self.candidates }
+        ensures { result ≡ covering_in states.now self above }
+    {
+        if self.bare_under(states, above) {
+            None
+        } else {
+            Some(StateNo(states[self.candidates.first]))
+        }
+    }
 }
 
-// Puts a shortest list of words for a subtree, below a word that decides `above`, after the first `used` words.
-pub(crate) fn emit_under(
-    row: &[u16; 256],
-    deferrable: &[bool; 256],
-    work: &[u32; 4096],
-    place: Place,
-    above: u16,
-    out: &mut [PrefixWord<StateNo>; 256],
-    used: usize,
-) -> usize
-    requires inside { (place.bits ≤ 8) × (place.value < 2 ^ place.bits) }
-    requires stands { Ends work.now place.end (tree_at (numbers row.now) (flags deferrable.now) place) }
-    requires room { used + length (words_under (numbers row.now) (flags deferrable.now) place above) ≤ 256 }
-    ensures { Emitted out.old out.new used result (words_under (numbers row.now) (flags deferrable.now) place above) }
-{
-    if place.bits == 8 {
-        let next = row[place.value as usize];
-        if above == next {
-            return used;
+impl Prefix {
+    // Appends a word that covers the bytes of the prefix, where there is a decision for it.
+    fn close(self, covering: Option<StateNo>, words: &mut ArrayVec<PrefixWord<StateNo>, 256>)
+        requires { array_vec_len words.old + length (closing self covering) ≤ 256 }
+        ensures { words.new.items ≡ words.old.items ++ closing self covering }
+    {
+        if let Some(next) = covering {
+            words.push(PrefixWord {
+                bits: self.bits,
+                value: self.value,
+                next,
+            });
         }
-        return push(out, used, place, next);
     }
-    let node = read(work, place);
-    let first = node.candidates.first;
-    let last = first + node.candidates.count;
-    if contains(&work[first..last], above as u32) {
-        let middle = emit_under(row, deferrable, work, node.low, above, out, used);
-        return emit_under(row, deferrable, work, node.high, above, out, middle);
-    }
-    let next = work[first] as u16;
-    let middle = emit_under(row, deferrable, work, node.low, next, out, used);
-    let closing = emit_under(row, deferrable, work, node.high, next, out, middle);
-    push(out, closing, place, next)
 }
 
-// Puts a shortest list of words for a subtree, below no word, after the first `used` words.
-pub(crate) fn emit(
-    row: &[u16; 256],
-    deferrable: &[bool; 256],
-    work: &[u32; 4096],
-    place: Place,
-    out: &mut [PrefixWord<StateNo>; 256],
-    used: usize,
-) -> usize
-    requires inside { (place.bits ≤ 8) × (place.value < 2 ^ place.bits) }
-    requires stands { Ends work.now place.end (tree_at (numbers row.now) (flags deferrable.now) place) }
-    requires room { used + length (words_at (numbers row.now) (flags deferrable.now) place) ≤ 256 }
-    ensures { Emitted out.old out.new used result (words_at (numbers row.now) (flags deferrable.now) place) }
-{
-    if place.bits == 8 {
-        if deferrable[place.value as usize] {
-            return used;
+impl Subtrees<'_> {
+    // Appends a shortest list for the bytes of a prefix, below a word that decides `above` where there is one.
+    pub(crate) fn emit(
+        &self,
+        number: usize,
+        prefix: Prefix,
+        above: Option<StateNo>,
+        words: &mut ArrayVec<PrefixWord<StateNo>, 256>,
+    )
+        requires inside { (prefix.bits ≤ 8) × (prefix.value < 2 ^ prefix.bits) }
+        requires stands { Stands self.now.nodes.items self.now.candidates.items number (tree_at self.now.row prefix) }
+        requires room { array_vec_len words.old + length (words_for self.now.row prefix above) ≤ 256 }
+        ensures { words.new.items ≡ words.old.items ++ words_for self.now.row prefix above }
+    {
+        let node = self.node(number);
+        let covering = node.covering(&self.candidates, above);
+        if let Some(halves) = node.halves {
+            let below = covering.or(above);
+            let (low, high) = prefix.halves();
+            self.emit(halves.low, low, below, words);
+            self.emit(halves.high, high, below, words);
         }
-        return push(out, used, place, row[place.value as usize]);
+        prefix.close(covering, words);
     }
-    let node = read(work, place);
-    if node.splits {
-        let middle = emit(row, deferrable, work, node.low, out, used);
-        return emit(row, deferrable, work, node.high, out, middle);
-    }
-    let covering = work[node.candidates.first] as u16;
-    let half = emit_under(row, deferrable, work, node.low, covering, out, used);
-    let whole = emit_under(row, deferrable, work, node.high, covering, out, half);
-    push(out, whole, place, covering)
 }

@@ -3,6 +3,6 @@
 mod costs;
 mod emit;
 pub mod lists;
-mod place;
 mod sets;
+mod trees;
 pub mod word;

@@ -1,54 +1,53 @@
-ghost use Rattle.std.specs.Prelude.{◌≡◌, ◌+◌, ◌≤◌, ◌++◌, length, nat_eq};
-ghost use Rattle.prefix.specs.Tree.{has, common};
-ghost use Rattle.prefix.specs.Cells.{Appended};
-ghost use Rattle.prefix.specs.Parts.{part_of};
+ghost use Rattle.std.specs.Prelude.{◌≡◌, ◌+◌, ◌-◌, ◌≤◌, ◌++◌, length, nat_eq};
+ghost use Rattle.prefix.specs.Tree.{common};
+ghost use Rattle.prefix.specs.Parts.{Inside, part_of};
+ghost use Rattle.arrayvec.specs.ArrayVec.{array_vec_len};
 
-// A part of the working memory: `count` cells from `first` on.
-#[derive(Clone, Copy)]
+use arrayvec::ArrayVec;
+
+// States by their numbers. The nodes of a row have 256 candidates at most at each of the nine lengths of a prefix.
+pub(crate) type States = ArrayVec<u16, 2304>;
+
+// Some of the states that stand one after another: those from `first` on, up to `end`.
+#[derive(Clone, Copy, Default)]
 pub(crate) struct Part {
     pub first: usize,
-    pub count: usize,
+    pub end: usize,
 }
 
-// Is `x` one of `xs`?
-pub(crate) fn contains(xs: &[u32], x: u32) -> bool
-    ensures { result ≡ has nat_eq x xs.now }
+impl Part {
+    // The states of the part.
+    pub(crate) fn of(self, states: &[u16]) -> &[u16]
+        requires { Inside (length states.now) self }
+        ensures { result.now ≡ part_of states.now self }
+    {
+        &states[self.first..self.end]
+    }
+}
+
+// Appends the states of `low` that are among those of `high` too.
+pub(crate) fn append_common(states: &mut States, low: Part, high: Part)
+    requires inside { Inside (array_vec_len states.old) low × Inside (array_vec_len states.old) high }
+    requires room { array_vec_len states.old + (low.end - low.first) ≤ 2304 }
+    ensures { states.new.items ≡ states.old.items ++ common nat_eq (part_of states.old.items low) (part_of states.old.items high) }
 {
-    for y in xs {
-        if x == *y {
-            return true;
+    // each is read from the list that it is appended to, so no slice of that list is at hand
+    for i in low.first..low.end {
+        let state = states[i];
+        if high.of(states).contains(&state) {
+            states.push(state);
         }
     }
-    false
 }
 
-// Appends, at `end`, the cells of `low` that are among those of `high` too, and returns how many they are.
-pub(crate) fn append_common(work: &mut [u32], low: Part, high: Part, end: usize) -> usize
-    requires inside { (low.first + low.count ≤ end) × (high.first + high.count ≤ end) }
-    requires room { end + low.count ≤ length work.old }
-    ensures few { result ≤ low.count }
-    ensures stores { Appended work.old work.new end result (common nat_eq (part_of work.old low) (part_of work.old high)) }
+// Appends the states of `part`.
+pub(crate) fn append_part(states: &mut States, part: Part)
+    requires inside { Inside (array_vec_len states.old) part }
+    requires room { array_vec_len states.old + (part.end - part.first) ≤ 2304 }
+    ensures { states.new.items ≡ states.old.items ++ part_of states.old.items part }
 {
-    let first = high.first;
-    let last = high.first + high.count;
-    let mut n = 0;
-    for i in 0..low.count {
-        let x = work[low.first + i];
-        if contains(&work[first..last], x) {
-            work[end + n] = x;
-            n += 1;
-        }
-    }
-    n
-}
-
-// Appends, at `end`, the cells of `from`.
-pub(crate) fn append_part(work: &mut [u32], from: Part, end: usize)
-    requires inside { from.first + from.count ≤ end }
-    requires room { end + from.count ≤ length work.old }
-    ensures { Appended work.old work.new end from.count (part_of work.old from) }
-{
-    for i in 0..from.count {
-        work[end + i] = work[from.first + i];
+    for i in part.first..part.end {
+        let state = states[i];
+        states.push(state);
     }
 }

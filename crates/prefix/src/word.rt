@@ -3,7 +3,7 @@ ghost use Rattle.prefix.specs.Masks.{byte_mask, byte_value};
 ghost use Rattle.prefix.specs.Words.{Formed, matches};
 
 // A prefix word: it compares the first `bits` bits of a byte with `value`, and decides `next`.
-#[derive(Clone, Copy, PartialEq, Eq, Debug)]
+#[derive(Clone, Copy, Default, PartialEq, Eq, Debug)]
 pub struct PrefixWord<D> {
     pub bits: u8,
     pub value: u8,

@@ -13,13 +13,6 @@ mod tests {
     // No byte may stay without a match.
     const NONE: [bool; 256] = [false; 256];
 
-    // A word that no list of these tests has.
-    const UNUSED: PrefixWord<StateNo> = PrefixWord {
-        bits: 8,
-        value: 0,
-        next: StateNo(9999),
-    };
-
     fn word(bits: u8, value: u8, next: u16) -> PrefixWord<StateNo> {
         PrefixWord {
             bits,
@@ -30,10 +23,8 @@ mod tests {
 
     // How many words both calls say that a shortest list has, if they agree.
     fn least(row: &[StateNo; 256], deferrable: &[bool; 256]) -> Option<usize> {
-        let mut work = [7; 4096];
-        let mut out = [UNUSED; 256];
-        let listed = shortest_list(row, deferrable, &mut work, &mut out);
-        let counted = shortest_length(row, deferrable, &mut work);
+        let listed = shortest_list(row, deferrable).len();
+        let counted = shortest_length(row, deferrable);
         if listed == counted {
             Some(listed)
         } else {
@@ -54,21 +45,17 @@ mod tests {
         let start = but_one(0, b'a', 1);
         let mut after_a = but_one(0, b'a', 1);
         after_a[b'b' as usize] = StateNo(2);
-        let mut work = [0; 4096];
-        let mut out = [UNUSED; 256];
-        assert_eq!(rt; shortest_list(&start, &NONE, &mut work, &mut out), 2);
-        assert_eq!(rt; out[0], word(8, b'a', 1));
-        assert_eq!(rt; out[1], word(0, 0, 0));
-        assert_eq!(rt; out[2], UNUSED);
-        out[1] = UNUSED;
+        assert_eq!(rt;
+            shortest_list(&start, &NONE).as_slice(),
+            [word(8, b'a', 1), word(0, 0, 0)].as_slice()
+        );
         let shared = shared_bytes(&after_a, &start);
-        assert_eq!(rt; shortest_list(&after_a, &shared, &mut work, &mut out), 1);
-        assert_eq!(rt; out[0], word(8, b'b', 2));
-        assert_eq!(rt; out[1], UNUSED);
-        out[0] = UNUSED;
+        assert_eq!(rt;
+            shortest_list(&after_a, &shared).as_slice(),
+            [word(8, b'b', 2)].as_slice()
+        );
         let shared = shared_bytes(&start, &start);
-        assert_eq!(rt; shortest_list(&start, &shared, &mut work, &mut out), 0);
-        assert_eq!(rt; out[0], UNUSED);
+        assert!(rt; shortest_list(&start, &shared).is_empty());
     }
 
     // A row by its kind, whose least number of words is worked out beside the tests.

@@ -1,5 +1,4 @@
-use Rattle.std.proofs.Common.{◌≡◌, ℕ, ◌-◌, ◌<◌, List, map, take, sym, ap, ◌∙◌, subst}
-use native.Mathlib.Nat.{sub-zero}
+use Rattle.std.proofs.Common.{◌≡◌, ◌<◌, List, map, sym, ◌∙◌, subst}
 use Rattle.std.specs.List.{AllByRecursion}
 use Rattle.ternary.specs.declared.words.StateNo.{StateNo}
 use Rattle.automaton.specs.Limits.{dfa, handed}
@@ -10,8 +9,8 @@ use Rattle.builder.proofs.Canonical.{lists_below}
 use Rattle.builder.proofs.Standing.{standing, parent_below, list_is}
 use Rattle.builder.proofs.filling.gather_state.Goals as goal
 
-pub list_of-count-requires : goal.list_of-count-requires
-list_of-count-requires c =
+pub list_of-words-requires : goal.list_of-words-requires
+list_of-words-requires c =
     let a = dfa (handed c.args.automaton) in
     let s = c.args.state.0 in
     let place = c.place_of-parent.result in
@@ -24,9 +23,7 @@ gather_words-requires c =
     let s = c.args.state.0 in
     let place = c.place_of-parent.result in
     let is = standing a c.args.plan.now c.requires.planned s place c.requires.known c.place_of-parent.ensures in
-    let count = c.list_of-count.result in
-    let out = c.list_of-count.new.words in
-    let words : take (count - 0) out ≡ lists_of a s = ap (λ (n : ℕ). take n out) (sub-zero count) ∙ (c.list_of-count.ensures.words ∙ list_is a s place is) in
+    let words : c.deref.result.now ≡ lists_of a s = c.deref.ensures.0 ∙ (c.list_of-words.ensures ∙ list_is a s place is) in
     record {
       within = c.requires.within;
       planned = c.requires.planned;
@@ -39,7 +36,5 @@ returns c =
     let s = c.args.state.0 in
     let place = c.place_of-parent.result in
     let is = standing a c.args.plan.now c.requires.planned s place c.requires.known c.place_of-parent.ensures in
-    let count = c.list_of-count.result in
-    let out = c.list_of-count.new.words in
-    let words : take (count - 0) out ≡ lists_of a s = ap (λ (n : ℕ). take n out) (sub-zero count) ∙ (c.list_of-count.ensures.words ∙ list_is a s place is) in
+    let words : c.deref.result.now ≡ lists_of a s = c.deref.ensures.0 ∙ (c.list_of-words.ensures ∙ list_is a s place is) in
     subst (λ (ws : List (PrefixWord StateNo)). Gathers c.args.gathered.now c.gather_words.new.gathered (map (entry_for a s) ws) c.gather_words.result) words c.gather_words.ensures

@@ -12,10 +12,6 @@ pub returns : goal.returns
 returns c =
     let a = dfa (handed c.args.automaton) in
     let s = c.args.state.0 in
-    record {
-      words =
-          c.shortest_list.ensures.words
-          ∙ chosen-same (numbered c.row_of-own.result) (a.next s) (flags c.deferrable_of-deferrable.result) (shared_with a (number_of c.args.parent) s)
-          (λ byte h. ap (λ (t : StateNo). t.0) (c.row_of-own.ensures byte h)) c.deferrable_of-deferrable.ensures;
-      bound = c.shortest_list.ensures.bound;
-    }
+    c.shortest_list.ensures.words
+    ∙ chosen-same (numbered c.row_of-own.result) (a.next s) (flags c.deferrable_of-deferrable.result) (shared_with a (number_of c.args.parent) s)
+    (λ byte h. ap (λ (t : StateNo). t.0) (c.row_of-own.ensures byte h)) c.deferrable_of-deferrable.ensures

@@ -1,14 +1,19 @@
-use Rattle.prefix.specs.States.{numbers, flags}
-use Rattle.prefix.proofs.Listing.{bounded, list_fewest}
+use Rattle.std.proofs.Common.{refl}
+use Rattle.prefix.specs.States.{flags, successors}
+use Rattle.prefix.specs.Listed.{numbered}
+use Rattle.prefix.proofs.Listing.{all_bytes, bounded, list_fewest, root_below, root_least}
 use Rattle.prefix.proofs.Prefixes.{small}
 use Rattle.prefix.proofs.lists.shortest_length.Goals as goal
 
+pub node-requires : goal.node-requires
+node-requires c = root_below _ all_bytes c.new-subtrees.result c.add-root.new.self c.add-root.result c.new-subtrees.ensures.row c.add-root.ensures
+
 pub returns : goal.returns
 returns c =
-    let row = numbers c.state_numbers-row_numbers.result in
+    let row = numbered c.args.row.now in
     let deferrable = flags c.args.deferrable.now in
-    let cost = c.of_prefix.ensures.least_is in
+    let least = root_least _ all_bytes c.new-subtrees.result c.add-root.new.self c.add-root.result c.new-subtrees.ensures.row c.add-root.ensures c.node.result c.node.ensures in
     record {
-      fewest = list_fewest row deferrable _ c.state_numbers-row_numbers.ensures c.of_prefix.result.least cost;
-      bound = bounded c.of_prefix.result.least _ cost (small row deferrable 0 0).1;
+      fewest = list_fewest row deferrable (successors c.args.row.now) (λ byte h. refl) c.node.result.least least;
+      bound = bounded c.node.result.least _ least (small row deferrable 0 0).1;
     }

@@ -1,0 +1,68 @@
+use Rattle.std.proofs.Common.{◌++◌, length, sym, ap, ◌∙◌, arith, length-append}
+use Rattle.prefix.specs.Listed.{words_for, closing}
+use Rattle.prefix.proofs.Standing.{low_fits, high_fits}
+use Rattle.prefix.proofs.Emitting.{covering_is, some_candidates, turn, words_byte, byte_alone, appended_in_turn}
+use Rattle.prefix.proofs.trees.Subtrees.+emit.Goals as goal
+use Rattle.prefix.proofs.trees.Subtrees.+emit.Goals.{in-Some, in_default}
+
+pub covering-covering-requires : goal.covering-covering-requires
+covering-covering-requires t c =
+    let w = c.args.self.now in
+    let some = some_candidates w.row c.args.prefix w.nodes.items w.candidates.items c.args.number c.node-node.result c.node-node.ensures c.requires.stands in
+    omega (arith, some, ap length c.deref.ensures.0)
+
+pub emit-requires : goal.emit-requires
+emit-requires t c =
+    let w = c.args.self.now in
+    let p = c.args.prefix in
+    let n = c.node-node.result in
+    let is = covering_is w.row p w.nodes.items w.candidates.items c.args.number n c.node-node.ensures c.requires.stands c.args.above _ c.deref.ensures.0 _ c.covering-covering.ensures in
+    let o = turn w p c.args.above c.args.number n c.node-node.ensures c.requires.stands c.in-Some.halves c.in-Some.is _ is _ _ c.halves.ensures.0 c.halves.ensures.1 _ c.or-below.ensures in
+    let fits = low_fits p c.halves.result.0 c.halves.ensures.0 c.requires.inside.1 in
+    (omega (arith, o.longer, fits), ((omega (arith, o.longer, fits), fits.1), (o.low, omega (arith, o.long))))
+
+pub emit-requires-in-Some : goal.emit-requires-in-Some
+emit-requires-in-Some t c =
+    let w = c.args.self.now in
+    let p = c.args.prefix in
+    let n = c.node-node.result in
+    let is = covering_is w.row p w.nodes.items w.candidates.items c.args.number n c.node-node.ensures c.requires.stands c.args.above _ c.deref.ensures.0 _ c.covering-covering.ensures in
+    let o = turn w p c.args.above c.args.number n c.node-node.ensures c.requires.stands c.in-Some.halves c.in-Some.is _ is _ _ c.halves.ensures.0 c.halves.ensures.1 _ c.or-below.ensures in
+    let fits = high_fits p c.halves.result.1 c.halves.ensures.1 c.requires.inside.1 in
+    let low = words_for w.row c.halves.result.0 c.or-below.result in
+    (omega (arith, o.longer, fits), ((omega (arith, o.longer, fits), fits.1), (o.high, omega (arith, o.long, ap length c.emit.ensures, length-append c.args.words.now.items low))))
+
+pub close-requires : goal.close-requires
+close-requires t c =
+    let w = c.args.self.now in
+    let p = c.args.prefix in
+    let n = c.node-node.result in
+    let is = covering_is w.row p w.nodes.items w.candidates.items c.args.number n c.node-node.ensures c.requires.stands c.args.above _ c.deref.ensures.0 _ c.covering-covering.ensures in
+    elim c.match-node.branch [
+      | in-Some v ↦
+          let o = turn w p c.args.above c.args.number n c.node-node.ensures c.requires.stands v.in-Some.halves v.in-Some.is _ is _ _ v.halves.ensures.0 v.halves.ensures.1 _ v.or-below.ensures in
+          let low = words_for w.row v.halves.result.0 v.or-below.result in
+          let high = words_for w.row v.halves.result.1 v.or-below.result in
+          omega (arith, o.long, ap (λ m. length m.items) v.words-is, ap length v.emit.ensures, ap length v.emit-in-Some.ensures, length-append c.args.words.now.items low, length-append v.emit.new.words.items high)
+      | in_default v ↦
+          let byte = byte_alone w.row p w.nodes.items w.candidates.items c.args.number n c.node-node.ensures c.requires.stands c.requires.inside.0 v.in_default.is in
+          let alone = words_byte w.row p c.args.above byte _ is in
+          omega (arith, ap (λ m. length m.items) v.words-is, ap length alone)
+    ]
+
+pub returns : goal.returns
+returns t c =
+    let w = c.args.self.now in
+    let p = c.args.prefix in
+    let n = c.node-node.result in
+    let is = covering_is w.row p w.nodes.items w.candidates.items c.args.number n c.node-node.ensures c.requires.stands c.args.above _ c.deref.ensures.0 _ c.covering-covering.ensures in
+    elim c.match-node.branch [
+      | in-Some v ↦
+          let o = turn w p c.args.above c.args.number n c.node-node.ensures c.requires.stands v.in-Some.halves v.in-Some.is _ is _ _ v.halves.ensures.0 v.halves.ensures.1 _ v.or-below.ensures in
+          c.close.ensures
+          ∙ appended_in_turn c.args.words.now.items v.emit.new.words.items c.match-node.words.items _ _ _ (closing p c.covering-covering.result) o.words v.emit.ensures (ap (λ m. m.items) v.words-is ∙ v.emit-in-Some.ensures)
+      | in_default v ↦
+          let byte = byte_alone w.row p w.nodes.items w.candidates.items c.args.number n c.node-node.ensures c.requires.stands c.requires.inside.0 v.in_default.is in
+          let alone = words_byte w.row p c.args.above byte _ is in
+          c.close.ensures ∙ (ap (λ m. m.items ++ closing p c.covering-covering.result) v.words-is ∙ ap (λ ws. c.args.words.now.items ++ ws) (sym alone))
+    ]
