@@ -1,5 +1,6 @@
 -- The arrays in which codes are worked out. Assumes nothing.
-use Rattle.std.specs.Prelude.{◌≡◌, ℕ, ◌*◌, ◌^◌, ◌<◌, cond, List, Some, None, Option, nat_le, slice_index}
+use Rattle.std.specs.Prelude.{◌≡◌, ℕ, zero, suc, ◌+◌, ◌*◌, ◌^◌, ◌<◌, List, Some, None, slice_index}
+use Rattle.forest.specs.Codes.{Parents}
 use Rattle.forest.specs.Forest.{Forest, rest}
 
 -- the first n numbers of the array are g 0, g 1, ..
@@ -10,6 +11,10 @@ Lists n items g = (k : ℕ) → k < n → slice_index items k ≡ g k
 abbrev pub part : Forest → ℕ → ℕ
 part f s = f.number s * 2 ^ rest f s
 
--- the width of a forest whose codes fit 16 bits
-abbrev pub fitting : Forest → Option ℕ
-fitting f = cond (nat_le f.width 16) (Some f.width) None
+-- the sum of the amounts of the states that s defers to; d is the depth of s, its steps to the root
+abbrev pub sum_above : ℕ → Parents → List ℕ → ℕ → ℕ
+sum_above zero parent amounts s = 0
+sum_above (suc d) parent amounts s = elim (parent s) [
+  | None ↦ 0
+  | Some p ↦ slice_index amounts p + sum_above d parent amounts p
+]

@@ -1,9 +1,9 @@
 // A state of an automaton, numbered from 0.
-#[derive(Clone, Copy, PartialEq, Eq, Debug)]
+#[derive(Clone, Copy, PartialEq, Eq, Default, Debug)]
 pub struct StateNo(pub u16);
 
 // The name by which a table knows a state. No function makes a state's code out of its number.
-#[derive(Clone, Copy, PartialEq, Eq, Debug)]
+#[derive(Clone, Copy, PartialEq, Eq, Default, Debug)]
 pub struct StateCode(pub u16);
 
 // A byte that led to a state of class 1 to 255: its place in its piece, and the class.
