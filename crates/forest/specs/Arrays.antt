@@ -12,9 +12,13 @@ abbrev pub part : Forest → ℕ → ℕ
 part f s = f.number s * 2 ^ rest f s
 
 -- the sum of the amounts of the states that s defers to; d is the depth of s, its steps to the root
-abbrev pub sum_above : ℕ → Parents → List ℕ → ℕ → ℕ
-sum_above zero parent amounts s = 0
-sum_above (suc d) parent amounts s = elim (parent s) [
+abbrev pub sum_up : ℕ → Parents → List ℕ → ℕ → ℕ
+sum_up zero parent amounts s = 0
+sum_up (suc d) parent amounts s = elim (parent s) [
   | None ↦ 0
-  | Some p ↦ slice_index amounts p + sum_above d parent amounts p
+  | Some p ↦ slice_index amounts p + sum_up d parent amounts p
 ]
+
+-- the same in a forest
+abbrev pub sum_above : Forest → List ℕ → ℕ → ℕ
+sum_above f amounts s = sum_up (f.depth s) f.parent amounts s

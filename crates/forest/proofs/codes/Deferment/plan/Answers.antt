@@ -1,6 +1,6 @@
-use Rattle.std.proofs.Common.{ℕ, ◌-◌, ◌+◌, ◌^◌, List, sym, subst, ◌∙◌, ap₂, arith}
+use Rattle.std.proofs.Common.{ℕ, ◌+◌, ◌-◌, ◌^◌, List, sym, subst, ◌∙◌, ap₂, arith}
 use Rattle.forest.specs.declared.plan.Placement.{Placement}
-use Rattle.forest.specs.Codes.{forest_in}
+use Rattle.forest.specs.Held.{held}
 use Rattle.forest.specs.Plan.{placement_of}
 use Rattle.forest.proofs.Arrays.{len_within}
 use Rattle.forest.proofs.Plans.{Places, place_more}
@@ -8,9 +8,8 @@ use Rattle.forest.proofs.codes.Deferment.plan.Goals as goal
 
 pub shadow_mask-requires : goal.shadow_mask-requires
 shadow_mask-requires c =
-    let self = c.args.self.now in
     let hs = c.loop-s-test.true in
-    (omega (arith, c.prefix_lens-lens.ensures c.loop-s.s hs, c.width-width.ensures, len_within self.parents.now self.depths.now self.described c.loop-s.s hs), c.if-width-gt-MOST_BITS.false)
+    (omega (arith, c.prefix_lens-lens.ensures c.loop-s.s hs, c.width-width.ensures, len_within c.args.self.now c.loop-s.s hs), c.if-width-gt-MOST_BITS.false)
 
 pub place-requires : goal.place-requires
 place-requires c = record {
@@ -22,9 +21,9 @@ place-requires c = record {
 
 pub loop-s-preserved : goal.loop-s-preserved
 loop-s-preserved c =
-    let self = c.args.self.now in
-    subst (λ (items : List Placement). Places items (c.loop-s.s + 1) (placement_of (forest_in self.parents.now self.depths.now))) (sym c.push.ensures.items)
-    (place_more c.loop-s.places.items c.place.result c.loop-s.s (placement_of (forest_in self.parents.now self.depths.now)) c.loop-s.invariant c.place.ensures)
+    let place = placement_of (held c.args.self.now) in
+    subst (λ (items : List Placement). Places items (c.loop-s.s + 1) place) (sym c.push.ensures.items)
+    (place_more c.loop-s.places.items c.place.result c.loop-s.s place c.loop-s.invariant c.place.ensures)
 
 pub returns : goal.returns
 returns c = (
