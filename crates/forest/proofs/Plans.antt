@@ -1,9 +1,7 @@
 -- Plans of the forests that arrays describe, and the plan of an automaton. Assumes nothing.
-use Rattle.std.proofs.Common.{◌≡◌, ℕ, ◌+◌, ◌<◌, ◌≤◌, List, [], ◌∷◌, ◌++◌, length, Some, None, Option, MatchOption, sym, ap, ◌∙◌, subst, inl, inr, arith}
-use Rattle.std.proofs.lemmas.Bool.{cases_eq, cond-true, cond-false, le-leb, lt-leb}
-use Rattle.std.proofs.lemmas.List.{get_or_append_left, get_or_push, length-append}
-use Rattle.std.proofs.lemmas.Option.{slice_get-get_or, get_or_from_slice_get, slice_get_past}
-use Rattle.std.specs.List.{slice_get}
+use Rattle.std.proofs.Common.{◌≡◌, ℕ, ◌<◌, ◌≤◌, List, length, Some, None, Option, MatchOption, sym, ap, ◌∙◌, subst, arith}
+use Rattle.std.proofs.lemmas.Bool.{cond-true, cond-false, le-leb, lt-leb}
+use Rattle.std.proofs.lemmas.Option.{slice_get_past}
 use Rattle.automaton.specs.Runs.{Dfa}
 use Rattle.forest.specs.Codes.{forest_in}
 use Rattle.forest.specs.Deferment.{joined_forest, loose_forest, forest_of}
@@ -13,21 +11,6 @@ use Rattle.forest.specs.declared.plan.Placement.{Placement}
 use Rattle.forest.specs.declared.plan.Plan.{Plan}
 use Rattle.forest.specs.Plan.{Planned, PlanOf, states_of, placement_of, placement_in, state_named}
 use Rattle.forest.proofs.Agree.{arrays_stand}
-
--- the places below n are given by g
-abbrev pub Places : List Placement → ℕ → (ℕ → Placement) → Type 0
-Places places n g = (length places ≡ n) × ((s : ℕ) → s < n → slice_get places s ≡ Some (g s))
-
--- one more place
-pub place_more : (places : List Placement) (place : Placement) (n : ℕ) (g : ℕ → Placement) → Places places n g → place ≡ g n → Places (places ++ place ∷ []) (n + 1) g
-place_more places place n g so_far is =
-    let long : length (places ++ place ∷ []) ≡ n + 1 = length-append places (place ∷ []) ∙ ap (λ (k : ℕ). k + 1) so_far.0 in (
-      long,
-      λ s hs. slice_get-get_or (places ++ place ∷ []) s place (omega (arith, long)) ∙ ap (λ (p : Placement). Some p) (elim (cases_eq s n) [
-        | inl e ↦ get_or_push places place place s (so_far.0 ∙ sym e) ∙ is ∙ ap g (sym e)
-        | inr ne ↦ get_or_append_left places (place ∷ []) place s (omega (arith, so_far.0)) ∙ get_or_from_slice_get places s (g s) place (so_far.1 s (omega arith))
-      ]),
-    )
 
 -- two forests give a state one place
 pub place_same : (f g : Forest) (s : ℕ) → f.parent s ≡ g.parent s → f.depth s ≡ g.depth s → code f s ≡ code g s → mask f s ≡ mask g s → placement_of f s ≡ placement_of g s

@@ -1,12 +1,13 @@
 -- Sums over the states that a state defers to, and counts of the states that defer to one. Assumes nothing.
 use Rattle.std.proofs.Common.{◌≡◌, ℕ, zero, suc, ◌+◌, ◌-◌, ◌*◌, ◌^◌, ◌<◌, ◌≤◌, max, Bool, List, length, get_or, take, Some, None, Option, sym, refl, ap, ◌∙◌, inl, inr, add-one, arith}
 use Rattle.std.specs.List.{count_by, fold}
+use Rattle.std.proofs.Math.Seq.{take-length}
 use Rattle.std.proofs.lemmas.Bool.{cases_Bool}
 use Rattle.std.proofs.lemmas.List.Sums.{count_by_more_yes, count_by_more_no, fold_more}
 use Rattle.forest.specs.Counting.{most}
 use Rattle.forest.specs.Forest.{Forest, code}
-use Rattle.forest.specs.Arrays.{part, sum_up, sum_above}
-use Rattle.forest.specs.Held.{held, ForEach}
+use Rattle.forest.specs.Arrays.{ForEach, part, sum_up, sum_above}
+use Rattle.forest.specs.Held.{held}
 use Rattle.forest.specs.declared.codes.Deferment.{Deferment}
 use Rattle.forest.specs.Codes.{Parents, same, deferring, child_bits, root_bits, parents_in, Rooted}
 use Rattle.forest.proofs.Counts.{count_bound, count_pass, count_fail, bits_least}
@@ -75,7 +76,7 @@ module _ (d : Deferment) (amounts : List ℕ) where
   pub len_sum : ForEach f amounts f.bits → (s : ℕ) → s < f.states → f.root_bits + sum_above f amounts s ≡ f.len s
   len_sum bits s hs = whole f.root_bits f.len
       (λ s hs e. len_root f.states f.parent (f.depth s) s e)
-      (λ s p hs e. omega (arith, len_step f.states f.parent f.depth r s p hs e, bits p (r.inside s p hs e)))
+      (λ s p hs e. omega (arith, len_step f.states f.parent f.depth r s p hs e, bits.1 p (r.inside s p hs e)))
       (f.depth s) s hs refl
 
   -- a code is the sum of the parts of its state and of those that it defers to
@@ -83,11 +84,11 @@ module _ (d : Deferment) (amounts : List ℕ) where
   code_sum parts s hs =
       omega (
         arith,
-        parts s hs,
+        parts.1 s hs,
         part_within f (formed d) s hs,
         whole 0 (λ s. code f s - part f s)
             (λ s hs e. omega (arith, code_root f (formed d) s hs e))
-            (λ s p hs e. omega (arith, code_child f (formed d) s hs p e, part_within f (formed d) p (r.inside s p hs e), parts p (r.inside s p hs e)))
+            (λ s p hs e. omega (arith, code_child f (formed d) s hs p e, part_within f (formed d) p (r.inside s p hs e), parts.1 p (r.inside s p hs e)))
             (f.depth s) s hs refl,
       )
 
@@ -108,7 +109,10 @@ module _ (d : Deferment) where
   pub len_small : (s : ℕ) → s < (held d).states → (held d).len s < 2 ^ 32
   len_small s hs = omega (arith, len_few ((held d).depth s) s hs refl, d.described.rooted.shallow s hs, d.few)
 
--- the largest of the first n numbers, as a fold finds it
-pub most_fold : (xs : List ℕ) (n : ℕ) → n ≤ length xs → fold max 0 (take n xs) ≡ most (λ k. get_or xs k 0) n
-most_fold xs zero h = refl
-most_fold xs (suc n) h = ap (λ (k : ℕ). fold max 0 (take k xs)) (sym (add-one n)) ∙ fold_more max 0 xs n 0 h ∙ ap (λ (m : ℕ). max m (get_or xs n 0)) (most_fold xs n (omega arith))
+-- the largest of n numbers, as a fold finds it
+most_first : (xs : List ℕ) (n : ℕ) → n ≤ length xs → fold max 0 (take n xs) ≡ most (λ k. get_or xs k 0) n
+most_first xs zero h = refl
+most_first xs (suc n) h = ap (λ (k : ℕ). fold max 0 (take k xs)) (sym (add-one n)) ∙ fold_more max 0 xs n 0 h ∙ ap (λ (m : ℕ). max m (get_or xs n 0)) (most_first xs n (omega arith))
+
+pub most_fold : (xs : List ℕ) (n : ℕ) → length xs ≡ n → fold max 0 xs ≡ most (λ k. get_or xs k 0) n
+most_fold xs n long = ap (fold max 0) (sym (take-length xs)) ∙ most_first xs (length xs) (omega arith) ∙ ap (most (λ k. get_or xs k 0)) long

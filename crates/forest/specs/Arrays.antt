@@ -1,11 +1,11 @@
--- The arrays in which codes are worked out. Assumes nothing.
-use Rattle.std.specs.Prelude.{◌≡◌, ℕ, zero, suc, ◌+◌, ◌*◌, ◌^◌, ◌<◌, List, Some, None, slice_index}
+-- The amounts from which codes are worked out. Assumes nothing.
+use Rattle.std.specs.Prelude.{◌≡◌, ℕ, zero, suc, ◌+◌, ◌*◌, ◌^◌, ◌<◌, List, length, Some, None, slice_index}
 use Rattle.forest.specs.Codes.{Parents}
 use Rattle.forest.specs.Forest.{Forest, rest}
 
--- the first n numbers of the array are g 0, g 1, ..
-abbrev pub Lists : ℕ → List ℕ → (ℕ → ℕ) → Type 0
-Lists n items g = (k : ℕ) → k < n → slice_index items k ≡ g k
+-- there is an amount for each state of a forest, and these amounts are given by g
+abbrev pub ForEach : Forest → List ℕ → (ℕ → ℕ) → Type 0
+ForEach f amounts g = (length amounts ≡ f.states) × ((s : ℕ) → s < f.states → slice_index amounts s ≡ g s)
 
 -- the part that the number of s has in codes: it ends where the prefix of s ends
 abbrev pub part : Forest → ℕ → ℕ

@@ -5,10 +5,9 @@ ghost use Rattle.forest.specs.Codes.{numbered};
 ghost use Rattle.forest.specs.Laws.{PlanLaws};
 ghost use Rattle.forest.specs.Plan.{PlanOf, Planned, PlanAnswer, states_of};
 
-use crate::codes::{Deferment, bits_for, shadow_mask};
+use crate::codes::{Deferment, bits_for, each_state, shadow_mask};
 use crate::deferment::defer;
 use crate::plan::{Placement, Plan};
-use arrayvec::ArrayVec;
 use automaton::words::Automaton;
 use ternary::refusal::Refusal;
 use ternary::words::StateCode;
@@ -60,15 +59,15 @@ fn flat(states: u16) -> Plan
 {
     let width = bits_for(states as u32);
     let mask = shadow_mask(width, width);
-    let mut places = ArrayVec::new();
-    for s in 0..states {
-        places.push(Placement {
+    let places = each_state(
+        states as usize,
+        |s| Placement {
             parent: None,
             depth: 0,
-            code: StateCode(s),
+            code: StateCode(s as u16),
             mask,
-        });
-    }
+        },
+    );
     Plan {
         width: width as u8,
         places,
