@@ -11,7 +11,7 @@ mod making;
 
 // A state's place in a plan: the state that it defers to, unless it is a root; its steps to the root; its code,
 // which is its shadow's value too; and the mask of its shadow.
-#[derive(Clone, Copy, PartialEq, Eq, Default, Debug, Drop)]
+#[derive(Clone, Copy, PartialEq, Eq, Default, Debug)]
 pub struct Placement {
     pub parent: Option<StateNo>,
     pub depth: u16,
