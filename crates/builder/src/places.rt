@@ -3,7 +3,7 @@ ghost use Rattle.std.specs.Prelude.{◌≡◌, ◌<◌, map, take, Some};
 ghost use Rattle.std.specs.List.{range_with_len};
 ghost use Rattle.automaton.specs.Limits.{handed, Within, dfa};
 ghost use Rattle.forest.specs.Deferment.{forest_of};
-ghost use Rattle.forest.specs.Plan.{PlanOf, placement_in};
+ghost use Rattle.forest.specs.Plan.{PlanOf, states_of, placement_in};
 ghost use Rattle.forest.specs.Table.{height};
 ghost use Rattle.builder.specs.Lists.{code_of, entry_for};
 
@@ -15,7 +15,7 @@ use ternary::words::{StateCode, StateNo};
 
 // The place of a state of the plan.
 pub(crate) fn place_of(plan: &Plan, state: StateNo) -> Placement
-    requires { state.0 < plan.now.states }
+    requires { state.0 < states_of plan.now }
     ensures { placement_in plan.now state.0 ≡ Some result }
 {
     match plan.placement(state) {

@@ -1,109 +1,60 @@
--- Arrays that were found and coded hold the forest of an automaton. Assumes nothing.
-use Rattle.std.proofs.Common.{◌≡◌, ℕ, ◌^◌, ◌<◌, ◌≤◌, Bool, true, false, cond, ltb, leb, List, ◌++◌, length, get_or, Some, None, Option, sym, refl, ap, ◌∙◌, arith}
-use Rattle.std.proofs.lemmas.Bool.{cond-true, cond-false, leb-true, le-leb, lt-ltb, le-ltb, false≢true}
-use Rattle.std.proofs.lemmas.List.{get_or_append_left}
+-- Plans of the forests that arrays describe, and the plan of an automaton. Assumes nothing.
+use Rattle.std.proofs.Common.{◌≡◌, ℕ, ◌<◌, ◌≤◌, List, length, Some, None, Option, MatchOption, sym, ap, ◌∙◌, subst, arith}
+use Rattle.std.proofs.lemmas.Bool.{cond-true, cond-false, le-leb, lt-leb}
+use Rattle.std.proofs.lemmas.Option.{slice_get_past}
 use Rattle.automaton.specs.Runs.{Dfa}
-use Rattle.forest.specs.Arrays.{fitting}
 use Rattle.forest.specs.Codes.{forest_in}
 use Rattle.forest.specs.Deferment.{joined_forest, loose_forest, forest_of}
 use Rattle.forest.specs.Forest.{Forest, code, mask}
-use Rattle.forest.specs.Laws.{Found, Loose, Same}
+use Rattle.forest.specs.Laws.{Found}
 use Rattle.forest.specs.declared.plan.Placement.{Placement}
 use Rattle.forest.specs.declared.plan.Plan.{Plan}
-use Rattle.forest.specs.Plan.{Coded, Planned, PlanOf, state_named, placement_of, placement_in}
+use Rattle.forest.specs.Plan.{Planned, PlanOf, states_of, placement_of, placement_in, state_named}
 use Rattle.forest.proofs.Agree.{arrays_stand}
-use Rattle.forest.proofs.Deferred.{forest_stands}
 
-some_narrow : (b : Bool) (w v : ℕ) → Some v ≡ cond b (Some w) None → (b ≡ true) × (v ≡ w)
-some_narrow true w v e = (refl, cc)
-some_narrow false w v e = absurd (let z : ◌≡◌ {A = ℕ} 0 1 = cc in omega arith)
+-- two forests give a state one place
+pub place_same : (f g : Forest) (s : ℕ) → f.parent s ≡ g.parent s → f.depth s ≡ g.depth s → code f s ≡ code g s → mask f s ≡ mask g s → placement_of f s ≡ placement_of g s
+place_same f g s p d c m = λ i. record { parent = state_named (p i); depth = d i; code = record { 0 = c i }; mask = m i }
 
-none_narrow : (b : Bool) (w : ℕ) → None ≡ cond b (Some w) None → b ≡ false
-none_narrow true w e = absurd (let z : ◌≡◌ {A = ℕ} 0 1 = cc in omega arith)
-none_narrow false w e = refl
-
--- a width that fits
-pub fits : (f : Forest) (w : ℕ) → Some w ≡ fitting f → f.width ≤ 16
-fits f w e = leb-true f.width 16 (some_narrow (leb f.width 16) f.width w e).0
-
--- arrays that are the same as a forest, which is the automaton's
-module _ (a : Dfa) (f : Forest) (is : forest_of a ≡ f) (states : f.states ≡ a.states) (parents : List (Option ℕ)) (depths codes masks : List ℕ) (same : Same f parents depths)
-    (size : length parents ≡ a.states) (parent_at : (s : ℕ) → s < a.states → get_or parents s None ≡ f.parent s) (depth_at : (s : ℕ) → s < a.states → get_or depths s 0 ≡ f.depth s)
-    (coded : Coded (forest_in parents depths) (length parents) codes masks) (w : ℕ) (wide : Some w ≡ fitting (forest_in parents depths)) where
-  planned : Planned a w parents depths codes masks
-  planned =
-      let picked = some_narrow (leb (forest_in parents depths).width 16) (forest_in parents depths).width w wide in
-      let back = sym is in
-      record {
-        wide = picked.1 ∙ (same.width ∙ ap (λ (g : Forest). g.width) back);
-        narrow_enough = omega (arith, picked.1, leb-true (forest_in parents depths).width 16 picked.0);
-        parent_at = λ s h. parent_at s h ∙ ap (λ (g : Forest). g.parent s) back;
-        depth_at = λ s h. depth_at s h ∙ ap (λ (g : Forest). g.depth s) back;
-        coded = λ s h.
-            let at = coded s (omega (arith, size)) in
-            (at.0 ∙ (same.codes s (omega (arith, states)) ∙ ap (λ (g : Forest). code g s) back), at.1 ∙ (same.masks s (omega (arith, states)) ∙ ap (λ (g : Forest). mask g s) back));
-      }
-
-module _ (a : Dfa) (parents : List (Option ℕ)) (depths : List ℕ) where
-  -- joined states whose codes fit
-  pub planned_joined : Found a parents depths → (codes masks : List ℕ) → Coded (forest_in parents depths) (length parents) codes masks → (w : ℕ) → Some w ≡ fitting (forest_in parents depths) → Planned a w parents depths codes masks
+-- what the arrays of the joined states plan is the automaton's plan, if their codes fit
+module _ (a : Dfa) (parents : List (Option ℕ)) (depths : List ℕ) (found : Found a parents depths) where
+  planned_joined : (p : Plan) → (states_of p ≡ length parents) × Planned (forest_in parents depths) p → PlanOf a p
   unfolding forest_of
-  planned_joined found codes masks coded w wide =
+  planned_joined p (states, told) =
       let same = (arrays_stand a parents depths).0 found in
-      let fits = (some_narrow (leb (forest_in parents depths).width 16) (forest_in parents depths).width w wide).0 in
-      let is : forest_of a ≡ joined_forest a = cond-true _ (joined_forest a) (loose_forest a) (ap (λ (k : ℕ). leb k 16) (sym same.width) ∙ fits) in
-      planned a (joined_forest a) is refl parents depths codes masks same found.size found.parent_at found.depth_at coded w wide
+      let fits : (joined_forest a).width ≤ 16 = omega (arith, same.width, told.wide, told.narrow_enough) in
+      let is : forest_of a ≡ joined_forest a = cond-true _ (joined_forest a) (loose_forest a) (le-leb (joined_forest a).width 16 fits) in
+      let planned : Planned (joined_forest a) p = record {
+        wide = told.wide ∙ same.width;
+        narrow_enough = told.narrow_enough;
+        placed = λ s hs.
+            let h : s < a.states = omega (arith, states, found.size) in
+            told.placed s hs ∙ ap (λ (q : Placement). Some q) (place_same (forest_in parents depths) (joined_forest a) s (found.parent_at s h) (found.depth_at s h) (same.codes s h) (same.masks s h));
+      } in (states ∙ found.size, subst (λ (f : Forest). Planned f p) (sym is) planned)
 
-  -- joined states whose codes do not fit leave every state a root
-  pub falls_back : Found a parents depths → None ≡ fitting (forest_in parents depths) → forest_of a ≡ loose_forest a
+  -- and else every state is a root
+  planned_loose : 16 < (forest_in parents depths).width → (p : Plan) → (states_of p ≡ a.states) × Planned (loose_forest a) p → PlanOf a p
   unfolding forest_of
-  falls_back found wide =
+  planned_loose wide p (states, told) =
       let same = (arrays_stand a parents depths).0 found in
-      cond-false _ (joined_forest a) (loose_forest a) (ap (λ (k : ℕ). leb k 16) (sym same.width) ∙ none_narrow (leb (forest_in parents depths).width 16) (forest_in parents depths).width wide)
+      let is : forest_of a ≡ loose_forest a = cond-false _ (joined_forest a) (loose_forest a) (lt-leb (joined_forest a).width 16 (omega (arith, same.width))) in
+      (states, subst (λ (f : Forest). Planned f p) (sym is) told)
 
-  module _ (is : forest_of a ≡ loose_forest a) (found : Loose a parents depths) where
-    pub planned_loose : (codes masks : List ℕ) → Coded (forest_in parents depths) (length parents) codes masks → (w : ℕ) → Some w ≡ fitting (forest_in parents depths) → Planned a w parents depths codes masks
-    planned_loose codes masks coded w wide =
-        planned a (loose_forest a) is refl parents depths codes masks ((arrays_stand a parents depths).1 found) found.size found.parent_at found.depth_at coded w wide
-
-    -- their codes fit
-    pub loose_fits : a.states ≤ 2 ^ 16 → None ≡ fitting (forest_in parents depths) → ⊥
-    loose_fits few wide =
-        let same = (arrays_stand a parents depths).1 found in
-        let small : (forest_in parents depths).width ≤ 16 = omega (arith, same.width, ap (λ (g : Forest). g.width) is, (forest_stands a).narrow few) in
-        false≢true (sym (none_narrow (leb (forest_in parents depths).width 16) (forest_in parents depths).width wide) ∙ le-leb (forest_in parents depths).width 16 small)
-
--- a plan in the first places of longer arrays
-pub planned_front : (a : Dfa) (w : ℕ) (parents parents' : List (Option ℕ)) (depths depths' codes codes' masks masks' : List ℕ) →
-    length parents ≡ a.states → length depths ≡ a.states → length codes ≡ a.states → length masks ≡ a.states →
-    Planned a w parents depths codes masks → Planned a w (parents ++ parents') (depths ++ depths') (codes ++ codes') (masks ++ masks')
-planned_front a w parents parents' depths depths' codes codes' masks masks' lp ld lc lm p = record {
-  wide = p.wide;
-  narrow_enough = p.narrow_enough;
-  parent_at = λ s h. get_or_append_left parents parents' None s (omega (arith, lp)) ∙ p.parent_at s h;
-  depth_at = λ s h. get_or_append_left depths depths' 0 s (omega (arith, ld)) ∙ p.depth_at s h;
-  coded = λ s h. (get_or_append_left codes codes' 0 s (omega (arith, lc)) ∙ (p.coded s h).0, get_or_append_left masks masks' 0 s (omega (arith, lm)) ∙ (p.coded s h).1);
-}
+  -- one of the two
+  pub planned_either : {Flat : Type 0} → (made : Option Plan) → MatchOption made (16 < (forest_in parents depths).width) (λ p. (states_of p ≡ length parents) × Planned (forest_in parents depths) p) →
+      (p : Plan) → MatchOption made Flat (λ q. p ≡ q) → (Flat → (states_of p ≡ a.states) × Planned (loose_forest a) p) → PlanOf a p
+  planned_either None wide p told flat = planned_loose wide p (flat told)
+  planned_either (Some q) fits p told flat = subst (PlanOf a) (sym told) (planned_joined q fits)
 
 -- what the plan of an automaton hands out
 module _ (a : Dfa) (p : Plan) (of : PlanOf a p) where
-  pub states_of : p.states ≡ a.states
-  states_of = of.0
-
   pub width_of : p.width ≡ (forest_of a).width
   width_of = of.1.wide
 
   -- each state has the place that the automaton's forest gives it
   pub placement_of_lem : (s : ℕ) → s < a.states → placement_in p s ≡ Some (placement_of (forest_of a) s)
-  placement_of_lem s h =
-      let of_s : Option ℕ → ℕ → ℕ → ℕ → Option Placement = λ parent depth code mask. Some (record { parent = state_named parent; depth = depth; code = record { 0 = code }; mask = mask }) in
-      let coded = of.1.coded s h in
-      cond-true (ltb s p.states) _ _ (lt-ltb s p.states (omega (arith, of.0)))
-      ∙ ap (λ (o : Option ℕ). of_s o (get_or p.depths s 0) (get_or p.codes s 0) (get_or p.masks s 0)) (of.1.parent_at s h)
-      ∙ ap (λ (d : ℕ). of_s ((forest_of a).parent s) d (get_or p.codes s 0) (get_or p.masks s 0)) (of.1.depth_at s h)
-      ∙ ap (λ (c : ℕ). of_s ((forest_of a).parent s) ((forest_of a).depth s) c (get_or p.masks s 0)) coded.0
-      ∙ ap (λ (m : ℕ). of_s ((forest_of a).parent s) ((forest_of a).depth s) (code (forest_of a) s) m) coded.1
+  placement_of_lem s h = of.1.placed s (omega (arith, of.0))
 
   -- no other number has a place
   pub placement_none : (s : ℕ) → a.states ≤ s → placement_in p s ≡ None
-  placement_none s h = cond-false (ltb s p.states) _ _ (le-ltb s p.states (omega (arith, of.0)))
+  placement_none s h = slice_get_past p.places.items s (omega (arith, of.0))

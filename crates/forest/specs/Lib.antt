@@ -9,3 +9,4 @@ pub mod Placing
 pub mod Table
 pub mod Laws
 pub mod Plan
+pub mod Held

@@ -1,26 +1,17 @@
 // The plan of an automaton, and what it hands out.
-ghost use Rattle.std.specs.Prelude.{◌≡◌, ◌≤◌};
+ghost use Rattle.std.specs.Prelude.{◌≡◌, ◌<◌, Some};
+ghost use Rattle.automaton.specs.Runs.{Dfa};
+ghost use Rattle.forest.specs.Deferment.{forest_of};
+ghost use Rattle.forest.specs.Plan.{PlanOf, states_of, placement_of, placement_in};
 
+use arrayvec::ArrayVec;
 use ternary::words::{StateCode, StateNo};
 
-mod handing;
 mod making;
-
-// The forest of an automaton with the codes of its states, in the first places of its arrays.
-#[derive(Drop)]
-pub struct Plan {
-    states: u16,
-    width: u8,
-    parents: [Option<u16>; 512],
-    depths: [u16; 512],
-    codes: [u16; 512],
-    masks: [u16; 512],
-    ghost few: { states ≤ 512 },
-}
 
 // A state's place in a plan: the state that it defers to, unless it is a root; its steps to the root; its code,
 // which is its shadow's value too; and the mask of its shadow.
-#[derive(Clone, Copy, PartialEq, Eq, Debug)]
+#[derive(Clone, Copy, PartialEq, Eq, Default, Debug)]
 pub struct Placement {
     pub parent: Option<StateNo>,
     pub depth: u16,
@@ -28,12 +19,19 @@ pub struct Placement {
     pub mask: u16,
 }
 
+// The forest of an automaton with the codes of its states: how many bits a code has, and the place of each state.
+#[derive(Drop)]
+pub struct Plan {
+    pub(crate) width: u8,
+    pub(crate) places: ArrayVec<Placement, 512>,
+}
+
 impl Plan {
     // How many states the automaton has.
     pub fn states(&self) -> u16
-        ensures { result ≡ self.now.states }
+        ensures { result ≡ states_of self.now }
     {
-        self.states
+        self.places.len() as u16
     }
 
     // How many bits a code has.
@@ -41,5 +39,13 @@ impl Plan {
         ensures { result ≡ self.now.width }
     {
         self.width
+    }
+
+    // The place of a state; none for a number that no state has.
+    pub fn placement(&self, state: StateNo) -> Option<Placement>
+        ensures value { result ≡ placement_in self.now state.0 }
+        ensures placed { (a : Dfa) → PlanOf a self.now → state.0 < a.states → result ≡ Some (placement_of (forest_of a) state.0) }
+    {
+        self.places.get(state.0 as usize).copied()
     }
 }

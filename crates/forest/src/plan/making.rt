@@ -1,14 +1,16 @@
 // Who defers to whom, and the codes and shadows of the states.
-ghost use Rattle.std.specs.Prelude.{◌≡◌, ◌+◌, ◌*◌, ◌≤◌, length, OnOk};
+ghost use Rattle.std.specs.Prelude.{◌≡◌, ◌+◌, ◌*◌, ◌≤◌, length, OnOk, None};
 ghost use Rattle.automaton.specs.Limits.{handed, Within, dfa};
+ghost use Rattle.forest.specs.Codes.{numbered};
 ghost use Rattle.forest.specs.Laws.{PlanLaws};
-ghost use Rattle.forest.specs.Plan.{Planned, PlanAnswer};
+ghost use Rattle.forest.specs.Plan.{PlanOf, Planned, PlanAnswer, states_of};
 
-use crate::codes::codes_of;
-use crate::deferment::{defer, loosen};
-use crate::plan::Plan;
+use crate::codes::{Deferment, bits_for, each_state, shadow_mask};
+use crate::deferment::defer;
+use crate::plan::{Placement, Plan};
 use automaton::words::Automaton;
 use ternary::refusal::Refusal;
+use ternary::words::StateCode;
 
 impl Plan {
     // The plan of an automaton; the shared counts of its states are worked out in the lent numbers.
@@ -23,49 +25,51 @@ impl Plan {
         }
         let mut parents = [None; 512];
         let mut depths = [0; 512];
-        let mut codes = [0; 512];
-        let mut masks = [0; 512];
-        let width = plan_in(
+        Ok(planned(
             automaton,
             work,
             &mut parents[0..states],
             &mut depths[0..states],
-            &mut codes[0..states],
-            &mut masks[0..states],
-        );
-        Ok(Plan {
-            states: automaton.states,
-            width,
-            parents,
-            depths,
-            codes,
-            masks,
-        })
+        ))
     }
 }
 
-// Plans in lent arrays with one place a state, and answers the bits of a code. Where these pass 16, nothing is joined.
-fn plan_in(
+// The plan of an automaton, by way of lent arrays with one place a state. Where codes would pass 16 bits, nothing is
+// joined.
+fn planned(
     automaton: Automaton<'_>,
     counts: &mut [u32],
     parents: &mut [Option<u16>],
     depths: &mut [u16],
-    codes: &mut [u16],
-    masks: &mut [u16],
-) -> u8
+) -> Plan
     requires within { Within (handed automaton) }
     requires room { automaton.states * automaton.states ≤ length counts.old }
-    requires found { (length parents.old ≡ automaton.states) × (length depths.old ≡ automaton.states) }
-    requires coded { (length codes.old ≡ automaton.states) × (length masks.old ≡ automaton.states) }
-    ensures { Planned (dfa (handed automaton.entry)) result parents.new depths.new codes.new masks.new }
+    requires sizes { (length parents.old ≡ automaton.states) × (length depths.old ≡ automaton.states) }
+    ensures { PlanOf (dfa (handed automaton.entry)) result }
 {
     defer(automaton, counts, depths, parents);
-    if let Some(width) = codes_of(parents, depths, codes, masks) {
-        return width;
-    }
-    loosen(depths, parents);
-    match codes_of(parents, depths, codes, masks) {
-        Some(width) => width,
-        None => unreachable(),
+    let joined = Deferment { parents, depths };
+    joined.plan().unwrap_or_else(|| flat(automaton.states))
+}
+
+// The plan of so many states that are all roots: their codes are their numbers.
+fn flat(states: u16) -> Plan
+    requires { states ≤ 512 }
+    ensures { (states_of result ≡ states) × Planned (numbered states (λ s. None) (λ s. 0)) result }
+{
+    let width = bits_for(states as u32);
+    let mask = shadow_mask(width, width);
+    let places = each_state(
+        states as usize,
+        |s| Placement {
+            parent: None,
+            depth: 0,
+            code: StateCode(s as u16),
+            mask,
+        },
+    );
+    Plan {
+        width: width as u8,
+        places,
     }
 }
