@@ -1,6 +1,6 @@
 use Rattle.automaton.specs.Limits.{handed, dfa}
-use Rattle.forest.specs.Joining.{RowsCounted}
-use Rattle.forest.proofs.sharing.count_shared.Given as goal
+use Rattle.forest.specs.Sharing.{RowsCounted}
+use Rattle.forest.proofs.sharing.SharedCounts.of.Given as goal
 
 -- the rows below s are counted
 abbrev pub invariant-loop-s : goal.invariant-loop-s
