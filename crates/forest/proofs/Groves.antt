@@ -31,11 +31,11 @@ none_any p (suc n) h = ap₂ (λ (x y : Bool). x || y) (h n (omega arith)) (none
 
 -- ---- at first
 
--- in an array of no joins none is found, also past its end
-pub none_everywhere : (n k : ℕ) → get_or {A = Option Join} (replicate n None) k None ≡ None
-none_everywhere n k = elim (cases_lt k n) [
+-- in an array of nothing nothing is found, also past its end
+pub none_everywhere : {X : Type 0} (n k : ℕ) → get_or {A = Option X} (replicate n None) k None ≡ None
+none_everywhere {X = X} n k = elim (cases_lt k n) [
   | inl h ↦ get_or-replicate n k None None h
-  | inr h ↦ get_or_past (replicate n None) k None (omega (arith, length-replicate {A = Option Join} n None))
+  | inr h ↦ get_or_past (replicate n None) k None (omega (arith, length-replicate {A = Option X} n None))
 ]
 
 module _ (labels : List StateNo) (items : List (Option Join)) (size : length items ≡ length labels)

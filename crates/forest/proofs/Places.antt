@@ -14,7 +14,7 @@ use Rattle.forest.specs.declared.placing.Place.{Place}
 use Rattle.forest.specs.Plan.{state_named}
 use Rattle.forest.specs.Labels.{label, joins, joins_at, Numbered}
 use Rattle.forest.specs.Counting.{any}
-use Rattle.forest.specs.Deferment.{Trees, trees_of, pair_is, loops, better, is_root, away, depth_of, parent_of}
+use Rattle.forest.specs.Deferment.{Trees, trees_of, pair_is, better, is_root, away, depth_of, parent_of}
 use Rattle.forest.specs.Placing.{place_of, root_place, stands, is_free, visits, visited, InPlace, Done, Placed, better_in, beaten_in}
 use Rattle.forest.proofs.Deferred.{Kept, kept, shallow, depth_away, nearer, next_depth, sole_nearer, root_depth, root_parent}
 use Rattle.forest.proofs.Counts.{any_from, any_gives, any_same}
@@ -229,35 +229,29 @@ not_true : (b : Bool) → not b ≡ true → b ≡ false
 not_true true e = sym e
 not_true false e = refl
 
-module _ (a : Dfa) (labels : List StateNo) (counts : List ℕ) (size : length counts ≡ a.states)
-    (labelled : (s : ℕ) → s < a.states → label labels s ≡ (trees_of a).tree s) (counted : (s : ℕ) → s < a.states → get_or counts s 0 ≡ loops a s) where
+module _ (a : Dfa) (labels : List StateNo) (labelled : (s : ℕ) → s < a.states → label labels s ≡ (trees_of a).tree s) where
   -- the arrays tell the roots
-  root_is : (s : ℕ) → s < a.states → not (beaten_in labels counts s) ≡ is_root a (trees_of a) s
+  root_is : (s : ℕ) → s < a.states → not (beaten_in labels a s) ≡ is_root a (trees_of a) s
   root_is s hs =
       ap (λ (b : Bool). not b)
-      (any_range (λ t. better_in labels counts t s) (length counts)
-      ∙ (any_same (λ t. better_in labels counts t s) (λ t. eqb ((trees_of a).tree t) ((trees_of a).tree s) && better a t s) (length counts)
-      (λ t ht.
-      let in-t : t < a.states = omega (arith, size) in
-      ap₂ (λ (x y : Bool). x && y)
-      (ap₂ (λ (x y : ℕ). eqb x y) (labelled t in-t) (labelled s hs))
-      (ap₂ (λ (x y : ℕ). ltb x y || (eqb x y && ltb t s)) (counted s hs) (counted t in-t)))
-      ∙ ap (λ (n : ℕ). any (λ t. eqb ((trees_of a).tree t) ((trees_of a).tree s) && better a t s) n) size))
+      (any_range (λ t. better_in labels a t s) a.states
+      ∙ any_same (λ t. better_in labels a t s) (λ t. eqb ((trees_of a).tree t) ((trees_of a).tree s) && better a t s) a.states
+      (λ t ht. ap₂ (λ (x y : ℕ). eqb x y && better a t s) (labelled t ht) (labelled s hs)))
 
   -- with the roots in their places, and no other state placed, the rounds may begin
   pub roots_placed : (places : List (Option Place)) → a.states ≤ length places →
-      ((s : ℕ) → s < length counts → get_or places s None ≡ cond (beaten_in labels counts s) None (Some root_place)) → Placed a (trees_of a) 0 places
+      ((s : ℕ) → s < a.states → get_or places s None ≡ cond (beaten_in labels a s) None (Some root_place)) → Placed a (trees_of a) 0 places
   roots_placed places long at =
       let f = trees_of a in
       let root : (s : ℕ) → s < a.states → is_root a f s ≡ true → InPlace a f places s =
       λ s hs e.
-      let first : beaten_in labels counts s ≡ false = not_true (beaten_in labels counts s) (root_is s hs ∙ e) in
-      at s (omega (arith, size)) ∙ (cond-false (beaten_in labels counts s) None (Some root_place) first
+      let first : beaten_in labels a s ≡ false = not_true (beaten_in labels a s) (root_is s hs ∙ e) in
+      at s hs ∙ (cond-false (beaten_in labels a s) None (Some root_place) first
       ∙ sym (ap₂ (λ (d : ℕ) (o : Option ℕ). Some (record { depth = d; parent = state_named o })) (root_depth a f (kept a) s e) (root_parent a f (kept a) s e))) in
       record {
         size = long;
-        right = λ s hs. elim (cases_Bool (beaten_in labels counts s)) [
-          | inl e ↦ inl (at s (omega (arith, size)) ∙ cond-true (beaten_in labels counts s) None (Some root_place) e)
+        right = λ s hs. elim (cases_Bool (beaten_in labels a s)) [
+          | inl e ↦ inl (at s hs ∙ cond-true (beaten_in labels a s) None (Some root_place) e)
           | inr e ↦ inr (root s hs (sym (root_is s hs) ∙ ap (λ (b : Bool). not b) e))
         ];
         full = λ s hs d.

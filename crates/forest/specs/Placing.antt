@@ -1,11 +1,11 @@
 -- Depths and parents, found in rounds from the roots. Assumes nothing.
-use Rattle.std.specs.Prelude.{◌≡◌, ℕ, ◌+◌, ◌<◌, ◌≤◌, Bool, true, false, cond, ◌&&◌, ◌||◌, ◌⊎◌, List, length, Some, None, Option, ◌==◌, nat_lt, slice_index, slice_index_or, slice_set}
+use Rattle.std.specs.Prelude.{◌≡◌, ℕ, ◌+◌, ◌<◌, ◌≤◌, Bool, true, false, cond, ◌&&◌, ◌⊎◌, List, length, Some, None, Option, ◌==◌, slice_index_or, slice_set}
 use Rattle.std.specs.List.{list_any, range_with_len}
 use Rattle.automaton.specs.Runs.{Dfa}
 use Rattle.ternary.specs.declared.words.StateNo.{StateNo}
 use Rattle.forest.specs.declared.placing.Place.{Place}
 use Rattle.forest.specs.declared.joining.Join.{Join}
-use Rattle.forest.specs.Deferment.{Trees, depth_of, parent_of}
+use Rattle.forest.specs.Deferment.{Trees, better, depth_of, parent_of}
 use Rattle.forest.specs.Plan.{state_named}
 use Rattle.forest.specs.Labels.{label, joins}
 
@@ -49,12 +49,10 @@ pub record Placed (a : Dfa) (f : Trees) (r : ℕ) (places : List (Option Place))
 abbrev pub Done : Dfa → Trees → ℕ → List (Option Place) → Option Join → Type 0
 Done a f r places o = (u v : ℕ) → joins o u v ≡ true → depth_of a f u ≡ r → InPlace a f places v
 
--- t stands in the tree of s and is a better root, by the numbers of the trees and the counts of bytes that lead from a state to itself
-abbrev pub better_in : List StateNo → List ℕ → ℕ → ℕ → Bool
-better_in labels loop_counts t s =
-    label labels t == label labels s
-    && (nat_lt (slice_index loop_counts s) (slice_index loop_counts t) || (slice_index loop_counts s == slice_index loop_counts t && nat_lt t s))
+-- t stands in the tree of s and is a better root, by the numbers of the trees
+abbrev pub better_in : List StateNo → Dfa → ℕ → ℕ → Bool
+better_in labels a t s = label labels t == label labels s && better a t s
 
 -- a state of the tree of s is a better root
-abbrev pub beaten_in : List StateNo → List ℕ → ℕ → Bool
-beaten_in labels loop_counts s = list_any (λ t. better_in labels loop_counts t s) (range_with_len 0 (length loop_counts))
+abbrev pub beaten_in : List StateNo → Dfa → ℕ → Bool
+beaten_in labels a s = list_any (λ t. better_in labels a t s) (range_with_len 0 a.states)

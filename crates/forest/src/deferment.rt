@@ -6,7 +6,7 @@ ghost use Rattle.forest.specs.Laws.{Found, Loose};
 
 use crate::joining::Grove;
 use crate::placing::places;
-use crate::sharing::SharedCounts;
+use crate::sharing::ByteCounts;
 use automaton::words::Automaton;
 
 // Finds the depth and the parent of each state.
@@ -21,9 +21,9 @@ pub(crate) fn defer(
     requires sizes { (length depths.old ≡ automaton.states) × (length parents.old ≡ automaton.states) }
     ensures { Found (dfa (handed automaton.entry)) parents.new depths.new }
 {
-    let shared = SharedCounts::of(automaton, counts);
-    let grove = Grove::of(shared);
-    let found = places(automaton, &grove);
+    let counts = ByteCounts::of(automaton, counts);
+    let grove = Grove::of(&counts);
+    let found = places(&grove, &counts);
     for s in 0..depths.len() {
         if let Some(place) = found[s] {
             depths[s] = place.depth;

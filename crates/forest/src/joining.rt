@@ -2,7 +2,7 @@
 ghost use Rattle.std.specs.Prelude.{◌≡◌, ℕ, ◌<◌, ◌≤◌, length, if◌then◌else◌, ◌==◌};
 ghost use Rattle.forest.specs.Labels.{label, Numbered};
 
-use crate::sharing::SharedCounts;
+use crate::sharing::ByteCounts;
 use std::array;
 use ternary::words::StateNo;
 
@@ -52,9 +52,9 @@ impl Grove {
     }
 
     // Joins the state `s` with each larger state that it shares so many bytes with, lower ones first.
-    fn join_row(&mut self, counts: SharedCounts<'_>, shared: u32, s: usize)
-        requires inside { s < counts.automaton.states }
-        ensures { let a = dfa (handed counts.entry.automaton) in
+    fn join_row(&mut self, counts: &ByteCounts<'_>, shared: u32, s: usize)
+        requires inside { s < counts.now.automaton.states }
+        ensures { let a = dfa (handed counts.now.automaton) in
             trees_in self.new ≡ kruskal (trees_in self.old) (pairs_of a shared s a.states) }
     {
         for t in s + 1..counts.states() {
@@ -65,8 +65,8 @@ impl Grove {
     }
 
     // Joins the pairs that share so many bytes, the lower smaller state first, then the lower larger state.
-    fn join_sharing(&mut self, counts: SharedCounts<'_>, shared: u32)
-        ensures { let a = dfa (handed counts.entry.automaton) in
+    fn join_sharing(&mut self, counts: &ByteCounts<'_>, shared: u32)
+        ensures { let a = dfa (handed counts.now.automaton) in
             trees_in self.new ≡ kruskal (trees_in self.old) (pairs_below a shared a.states) }
     {
         for s in 0..counts.states() {
@@ -75,11 +75,11 @@ impl Grove {
     }
 
     // The trees of an automaton: joins the pairs that share 32 bytes or more, those that share more first.
-    pub(crate) fn of(counts: SharedCounts<'_>) -> Grove
-        ensures { trees_in result ≡ trees_of (dfa (handed counts.entry.automaton)) }
+    pub(crate) fn of(counts: &ByteCounts<'_>) -> Grove
+        ensures { trees_in result ≡ trees_of (dfa (handed counts.now.automaton)) }
     {
         let mut grove = Grove::alone();
-        for shared in (32..257).rev() {
+        for shared in (32..=256).rev() {
             grove.join_sharing(counts, shared);
         }
         grove

@@ -1,14 +1,13 @@
 // Depths and parents, found in rounds from the roots.
 ghost use Rattle.std.specs.Prelude.{◌≡◌, ℕ, ◌+◌, ◌<◌, ◌≤◌, length, if◌then◌else◌, Some, None, slice_index_or};
 ghost use Rattle.automaton.specs.Runs.{Dfa};
-ghost use Rattle.automaton.specs.Limits.{handed, Within, dfa};
+ghost use Rattle.automaton.specs.Limits.{handed, dfa};
 ghost use Rattle.forest.specs.Deferment.{trees_of};
 ghost use Rattle.forest.specs.Joining.{trees_in};
 ghost use Rattle.forest.specs.Placing.{root_place, place_of, visited, Placed, better_in, beaten_in};
 
 use crate::joining::Grove;
-use crate::sharing::count_loops;
-use automaton::words::Automaton;
+use crate::sharing::ByteCounts;
 use ternary::words::StateNo;
 
 // Where a state stands: how many joins lead to its root, and the state that it defers to, unless it is a root.
@@ -49,54 +48,46 @@ fn place_round(grove: &Grove, r: u16, places: &mut [Option<Place>])
 }
 
 // Whether `t` stands in the tree of `s` and is a better root: more bytes lead to itself, or as many and its number is lower.
-fn is_better(grove: &Grove, loop_counts: &[u16], t: usize, s: usize) -> bool
-    requires inside { (t < length loop_counts.now) × (s < length loop_counts.now) }
-    requires few { length loop_counts.now ≤ 512 }
-    ensures { result ≡ better_in grove.now.labels loop_counts.now t s }
+fn is_better(grove: &Grove, counts: &ByteCounts<'_>, t: usize, s: usize) -> bool
+    requires inside { (t < counts.now.automaton.states) × (s < counts.now.automaton.states) }
+    ensures { result ≡ better_in grove.now.labels (dfa (handed counts.now.automaton)) t s }
 {
-    grove.labels[t] == grove.labels[s] && (loop_counts[s], t) < (loop_counts[t], s)
+    grove.labels[t] == grove.labels[s] && (counts.loops(s), t) < (counts.loops(t), s)
 }
 
 // Whether a state of the tree of `s` is a better root.
-fn is_beaten(grove: &Grove, loop_counts: &[u16], s: usize) -> bool
-    requires inside { s < length loop_counts.now }
-    requires few { length loop_counts.now ≤ 512 }
-    ensures { result ≡ beaten_in grove.now.labels loop_counts.now s }
+fn is_beaten(grove: &Grove, counts: &ByteCounts<'_>, s: usize) -> bool
+    requires inside { s < counts.now.automaton.states }
+    ensures { result ≡ beaten_in grove.now.labels (dfa (handed counts.now.automaton)) s }
 {
-    (0..loop_counts.len()).any(|t| is_better(grove, loop_counts, t, s))
+    (0..counts.states()).any(|t| is_better(grove, counts, t, s))
 }
 
 // Places the roots, and no other state yet.
-fn place_roots(grove: &Grove, loop_counts: &[u16], places: &mut [Option<Place>])
-    requires sizes { (length loop_counts.now ≤ length places.old) × (length loop_counts.now ≤ 512) }
-    ensures { (s : ℕ) → s < length loop_counts.now → slice_index_or places.new s None ≡ (if beaten_in grove.now.labels loop_counts.now s then None else Some root_place) }
+fn roots(grove: &Grove, counts: &ByteCounts<'_>) -> [Option<Place>; 512]
+    ensures { let a = dfa (handed counts.now.automaton) in
+        (s : ℕ) → s < a.states → slice_index_or result s None ≡ (if beaten_in grove.now.labels a s then None else Some root_place) }
 {
-    for s in 0..loop_counts.len() {
-        if is_beaten(grove, loop_counts, s) {
-            places[s] = None;
-        } else {
+    let mut places = [None; 512];
+    for s in 0..counts.states() {
+        if !is_beaten(grove, counts, s) {
             places[s] = Some(Place {
                 depth: 0,
                 parent: None,
             });
         }
     }
+    places
 }
 
 // Finds the place of every state of an automaton in its trees.
-pub(crate) fn places(automaton: Automaton<'_>, grove: &Grove) -> [Option<Place>; 512]
-    requires within { Within (handed automaton) }
-    requires grown { trees_in grove.now ≡ trees_of (dfa (handed automaton)) }
-    ensures { let a = dfa (handed automaton.entry) in
+pub(crate) fn places(grove: &Grove, counts: &ByteCounts<'_>) -> [Option<Place>; 512]
+    requires grown { trees_in grove.now ≡ trees_of (dfa (handed counts.now.automaton)) }
+    ensures { let a = dfa (handed counts.now.automaton) in
         (s : ℕ) → s < a.states → slice_index_or result s None ≡ Some (place_of a (trees_of a) s) }
 {
-    let states = automaton.states as usize;
-    let mut loop_counts = [0; 512];
-    let loop_counts = &mut loop_counts[..states];
-    count_loops(automaton, loop_counts);
-    let mut places = [None; 512];
-    place_roots(grove, loop_counts, &mut places);
-    for r in 0..automaton.states {
+    let mut places = roots(grove, counts);
+    for r in 0..counts.automaton.states {
         place_round(grove, r, &mut places);
     }
     places

@@ -13,7 +13,7 @@ loop-s-preserved c k h =
     let a = dfa (handed c.args.automaton) in
     let f = trees_of a in
     let s = c.loop-s.s in
-    let here : get_or c.places-found.result s None ≡ Some (place_of a f s) = c.places-found.ensures s (omega arith) in
+    let here : get_or c.places-found.result s None ≡ Some (place_of a f s) = (rw c.of-counts.ensures at c.places-found.ensures) s (omega arith) in
     elim c.match-found-s.branch [
       | in-Some w ↦
           let same : w.in-Some.place ≡ place_of a f s = cc in

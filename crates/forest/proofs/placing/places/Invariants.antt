@@ -5,4 +5,4 @@ use Rattle.forest.proofs.placing.places.Given as goal
 
 -- the states at depth r or less are placed
 abbrev pub invariant-loop-r : goal.invariant-loop-r
-invariant-loop-r l = Placed (dfa (handed l.automaton)) (trees_of (dfa (handed l.automaton))) l.r l.places
+invariant-loop-r l = Placed (dfa (handed l.counts.automaton)) (trees_of (dfa (handed l.counts.automaton))) l.r l.places

@@ -6,11 +6,11 @@ use Rattle.forest.proofs.joining.Grove.join_row.Goals as goal
 use Rattle.forest.proofs.joining.Grove.join_row.Goals.{then-shared, else-shared}
 
 pub loop-t-init : goal.loop-t-init
-loop-t-init c = row_none (dfa (handed c.args.counts.automaton)) (trees_in c.args.self.now) c.args.shared c.args.s
+loop-t-init c = row_none (dfa (handed c.args.counts.now.automaton)) (trees_in c.args.self.now) c.args.shared c.args.s
 
 pub loop-t-preserved : goal.loop-t-preserved
 loop-t-preserved c =
-    let a = dfa (handed c.args.counts.automaton) in
+    let a = dfa (handed c.args.counts.now.automaton) in
     let before = trees_in c.args.self.now in
     let here = trees_in c.loop-t.self in
     elim c.if-shared.branch [

@@ -7,4 +7,4 @@ use Rattle.forest.proofs.joining.Grove.join_sharing.Goals as goal
 pub loop-s-preserved : goal.loop-s-preserved
 loop-s-preserved c =
     c.join_row.ensures
-    ∙ rows_more (dfa (handed c.args.counts.automaton)) (trees_in c.args.self.now) (trees_in c.loop-s.self) c.args.shared c.loop-s.s c.loop-s.invariant
+    ∙ rows_more (dfa (handed c.args.counts.now.automaton)) (trees_in c.args.self.now) (trees_in c.loop-s.self) c.args.shared c.loop-s.s c.loop-s.invariant

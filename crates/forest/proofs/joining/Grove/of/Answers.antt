@@ -6,16 +6,16 @@ use Rattle.forest.proofs.Groves.{ranked_start, ranked_more, ranked_end}
 use Rattle.forest.proofs.joining.Grove.of.Goals as goal
 
 pub loop-shared-init : goal.loop-shared-init
-loop-shared-init c = ranked_start (dfa (handed c.args.counts.automaton)) (trees_in c.alone-grove.result) c.alone-grove.ensures
+loop-shared-init c = ranked_start (dfa (handed c.args.counts.now.automaton)) (trees_in c.alone-grove.result) c.alone-grove.ensures
 
 pub loop-shared-preserved : goal.loop-shared-preserved
 loop-shared-preserved c =
-    let a = dfa (handed c.args.counts.automaton) in
+    let a = dfa (handed c.args.counts.now.automaton) in
     let shared = c.loop-shared.shared in
-    ap (λ (f : Trees). kruskal f (ranked a (shared - 1 - 32))) c.join_sharing.ensures
-    ∙ ranked_more a (trees_in c.loop-shared.grove) (trees_of a) (shared - 32) (shared - 1 - 32) (shared - 1) (omega arith) (omega arith) c.loop-shared.invariant
+    ap (λ (f : Trees). kruskal f (ranked a (shared - 1 - 31))) c.join_sharing.ensures
+    ∙ ranked_more a (trees_in c.loop-shared.grove) (trees_of a) (shared - 31) (shared - 1 - 31) shared (omega arith) (omega arith) c.loop-shared.invariant
 
 pub returns : goal.returns
 returns c =
-    let a = dfa (handed c.args.counts.automaton) in
-    ranked_end a (trees_in c.loop-shared.grove) (trees_of a) (c.loop-shared.shared - 32) (omega arith) c.loop-shared.invariant
+    let a = dfa (handed c.args.counts.now.automaton) in
+    ranked_end a (trees_in c.loop-shared.grove) (trees_of a) (c.loop-shared.shared - 31) (omega arith) c.loop-shared.invariant

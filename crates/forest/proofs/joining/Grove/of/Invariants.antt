@@ -6,4 +6,4 @@ use Rattle.forest.proofs.joining.Grove.of.Given as goal
 
 -- the pairs that are left make the trees of the automaton
 abbrev pub invariant-loop-shared : goal.invariant-loop-shared
-invariant-loop-shared l = kruskal (trees_in l.grove) (ranked (dfa (handed l.counts.automaton)) (l.shared - 32)) ≡ trees_of (dfa (handed l.counts.automaton))
+invariant-loop-shared l = kruskal (trees_in l.grove) (ranked (dfa (handed l.counts.automaton)) (l.shared - 31)) ≡ trees_of (dfa (handed l.counts.automaton))
