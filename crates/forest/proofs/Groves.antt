@@ -10,7 +10,7 @@ use Rattle.forest.specs.Counting.{any}
 use Rattle.automaton.specs.Runs.{Dfa}
 use Rattle.forest.specs.Deferment.{Trees, shared, alone, join, kruskal, pairs_of, pairs_below, ranked, pair_is, trees_of}
 use Rattle.forest.specs.Labels.{label, joins, joins_at, Numbered, grown}
-use Rattle.forest.specs.Joining.{turn, pair_shares}
+use Rattle.forest.specs.Joining.{turn}
 use Rattle.forest.proofs.Counts.{any_same}
 
 -- a test that passes at one number more
@@ -167,6 +167,10 @@ no_pairs a c s (suc t) h =
 
 pub row_none : (a : Dfa) (f : Trees) (c s : ℕ) → f ≡ kruskal f (pairs_of a c s (s + 1))
 row_none a f c s = sym (ap (kruskal f) (no_pairs a c s (s + 1) (omega arith)))
+
+-- t is larger than s and shares c bytes with it
+abbrev pair_shares : Dfa → ℕ → ℕ → ℕ → Bool
+pair_shares a c s t = ltb s t && eqb (shared a s t) c
 
 -- the turn of the pair (s, t) among the pairs that share c bytes
 row_more : (a : Dfa) (f : Trees) (c s t : ℕ) → kruskal f (pairs_of a c s (t + 1)) ≡ cond (pair_shares a c s t) (turn (kruskal f (pairs_of a c s t)) (s, t)) (kruskal f (pairs_of a c s t))

@@ -15,7 +15,7 @@ use Rattle.forest.specs.Plan.{state_named}
 use Rattle.forest.specs.Labels.{label, joins, joins_at, Numbered}
 use Rattle.forest.specs.Counting.{any}
 use Rattle.forest.specs.Deferment.{Trees, trees_of, pair_is, better, is_root, away, depth_of, parent_of}
-use Rattle.forest.specs.Placing.{place_of, root_place, stands, is_free, visits, visited, InPlace, Done, Placed, better_in, beaten_in}
+use Rattle.forest.specs.Placing.{place_of, root_place, stands, is_free, visits, visited, InPlace, Placed, better_in, beaten_in}
 use Rattle.forest.proofs.Deferred.{Kept, kept, shallow, depth_away, nearer, next_depth, sole_nearer, root_depth, root_parent}
 use Rattle.forest.proofs.Counts.{any_from, any_gives, any_same}
 
@@ -63,6 +63,10 @@ module _ (a : Dfa) (g : Grove) (grown : trees_in g ≡ trees_of a) where
   grove_tree s h = sym (cond-true (ltb s (length g.labels)) (label g.labels s) s (lt-ltb s (length g.labels) h)) ∙ ap (λ (f : Trees). f.tree s) grown
 
 -- ---- one visit
+
+-- of two states that a join connects, one at depth r has placed the other
+abbrev pub Done : Dfa → Trees → ℕ → List (Option Place) → Option Join → Type 0
+Done a f r places o = (u v : ℕ) → joins o u v ≡ true → depth_of a f u ≡ r → InPlace a f places v
 
 -- a state with no place stands nowhere, and one in its place stands at its depth
 stands_right : (a : Dfa) (f : Trees) (r s : ℕ) (o : Option Place) → (o ≡ None) ⊎ (o ≡ Some (place_of a f s)) → stands o r ≡ true → depth_of a f s ≡ r

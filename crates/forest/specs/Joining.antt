@@ -1,8 +1,7 @@
 -- The trees that arrays hold, and the turns of pairs. Assumes nothing.
-use Rattle.std.specs.Prelude.{ℕ, Bool, cond, ◌&&◌, ◌==◌, nat_lt}
-use Rattle.automaton.specs.Runs.{Dfa}
+use Rattle.std.specs.Prelude.{ℕ, cond, ◌==◌}
 use Rattle.forest.specs.declared.joining.Grove.{Grove}
-use Rattle.forest.specs.Deferment.{Trees, shared, join}
+use Rattle.forest.specs.Deferment.{Trees, join}
 use Rattle.forest.specs.Labels.{grown}
 
 -- what the turn of a pair makes of the trees: it is joined, or passed over if it is already connected
@@ -12,7 +11,3 @@ turn f p = cond (f.tree p.0 == f.tree p.1) f (join f p.0 p.1)
 -- the trees that a grove holds
 unfoldable pub trees_in : Grove → Trees
 trees_in g = grown g.labels g.joins
-
--- t is larger than s and shares c bytes with it
-abbrev pub pair_shares : Dfa → ℕ → ℕ → ℕ → Bool
-pair_shares a c s t = nat_lt s t && shared a s t == c

@@ -4,10 +4,9 @@ use Rattle.std.specs.List.{list_any, range_with_len}
 use Rattle.automaton.specs.Runs.{Dfa}
 use Rattle.ternary.specs.declared.words.StateNo.{StateNo}
 use Rattle.forest.specs.declared.placing.Place.{Place}
-use Rattle.forest.specs.declared.joining.Join.{Join}
 use Rattle.forest.specs.Deferment.{Trees, better, depth_of, parent_of}
 use Rattle.forest.specs.Plan.{state_named}
-use Rattle.forest.specs.Labels.{label, joins}
+use Rattle.forest.specs.Labels.{label}
 
 -- the place of a root
 abbrev pub root_place : Place
@@ -44,10 +43,6 @@ pub record Placed (a : Dfa) (f : Trees) (r : ℕ) (places : List (Option Place))
   pub size : a.states ≤ length places
   pub right : (s : ℕ) → s < a.states → (slice_index_or places s None ≡ None) ⊎ InPlace a f places s
   pub full : (s : ℕ) → s < a.states → depth_of a f s ≤ r → InPlace a f places s
-
--- of two states that a join connects, one at depth r has placed the other
-abbrev pub Done : Dfa → Trees → ℕ → List (Option Place) → Option Join → Type 0
-Done a f r places o = (u v : ℕ) → joins o u v ≡ true → depth_of a f u ≡ r → InPlace a f places v
 
 -- t stands in the tree of s and is a better root, by the numbers of the trees
 abbrev pub better_in : List StateNo → Dfa → ℕ → ℕ → Bool

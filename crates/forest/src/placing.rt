@@ -69,13 +69,11 @@ fn roots(grove: &Grove, counts: &ByteCounts<'_>) -> [Option<Place>; 512]
         (s : ℕ) → s < a.states → slice_index_or result s None ≡ (if beaten_in grove.now.labels a s then None else Some root_place) }
 {
     let mut places = [None; 512];
-    for s in 0..counts.states() {
-        if !is_beaten(grove, counts, s) {
-            places[s] = Some(Place {
-                depth: 0,
-                parent: None,
-            });
-        }
+    for (s, place) in places[..counts.states()].iter_mut().enumerate() {
+        *place = (!is_beaten(grove, counts, s)).then_some(Place {
+            depth: 0,
+            parent: None,
+        });
     }
     places
 }

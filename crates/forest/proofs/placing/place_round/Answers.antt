@@ -1,8 +1,8 @@
 use Rattle.std.proofs.Common.{ℕ, ◌+◌, ◌<◌, List, get_or, None, Option, sym, ap, ◌∙◌, subst, arith}
 use Rattle.forest.specs.declared.placing.Place.{Place}
 use Rattle.forest.specs.Deferment.{trees_of}
-use Rattle.forest.specs.Placing.{Placed, Done, visited}
-use Rattle.forest.proofs.Places.{join_inside, grove_joined, twice_placed, join_more, none_more, round_ends}
+use Rattle.forest.specs.Placing.{Placed, visited}
+use Rattle.forest.proofs.Places.{Done, join_inside, grove_joined, twice_placed, join_more, none_more, round_ends}
 use Rattle.forest.proofs.placing.place_round.Goals as goal
 use Rattle.forest.proofs.placing.place_round.Goals.{in-Some, in_default}
 

@@ -2,7 +2,8 @@ use Rattle.std.proofs.Common.{◌≡◌, ℕ, ◌<◌, None, get_or}
 use Rattle.automaton.specs.Runs.{Dfa}
 use Rattle.forest.specs.Deferment.{trees_of}
 use Rattle.forest.specs.Joining.{trees_in}
-use Rattle.forest.specs.Placing.{Placed, Done}
+use Rattle.forest.specs.Placing.{Placed}
+use Rattle.forest.proofs.Places.{Done}
 use Rattle.forest.proofs.placing.place_round.Given as goal
 
 -- what is placed is right, and the joins so far are done

@@ -1,8 +1,7 @@
-use Rattle.std.proofs.Common.{◌≡◌, length}
 use Rattle.automaton.specs.Limits.{handed, dfa}
 use Rattle.forest.specs.Sharing.{LoopsCounted}
 use Rattle.forest.proofs.sharing.count_loops.Given as goal
 
 -- the states below s are counted
 abbrev pub invariant-loop-s : goal.invariant-loop-s
-invariant-loop-s l = (length l.counts ≡ 512) × LoopsCounted (dfa (handed l.automaton)) l.counts l.s
+invariant-loop-s l = LoopsCounted (dfa (handed l.automaton)) l.count-items l.s
