@@ -1,5 +1,6 @@
 -- The forest of an automaton is well formed, and keeps the rules of deferment. Assumes nothing.
 use Rattle.std.proofs.Common.{◌≡◌, ℕ, zero, suc, ◌+◌, ◌^◌, ◌<◌, ◌≤◌, Bool, true, false, cond, ◌&&◌, ◌||◌, eqb, ltb, leb, ◌⊎◌, List, [], ◌∷◌, Some, None, Option, sym, refl, ap, ◌∙◌, subst, ap₂, inl, inr, not-suc-le-zero, arith}
+use Rattle.std.proofs.Math.Bool.{or_comm, and_comm}
 use Rattle.std.specs.List.{ContainsAt as Has, AllByRecursion}
 use Rattle.std.proofs.ByRecursion.{All-append, has_append_left, has_append_right, has_push}
 use Rattle.std.proofs.lemmas.Bool.{cases_eq, cases_Bool, true≢false, not-true, not_from_false, eqb-true, eq-eqb, ne_eqb, lt-ltb, leb-true, and_parts, and_from, or_cases, cond-true, cond-false}
@@ -67,22 +68,10 @@ pub record Kept (a : Dfa) (f : Trees) : Type 0 where
   pub bridge : (s t : ℕ) → f.joined s t ≡ true → Bridge f s t
   pub either_way : (s t : ℕ) → f.joined s t ≡ f.joined t s
 
-or_swap : (x y : Bool) → (x || y) ≡ (y || x)
-or_swap true true = refl
-or_swap true false = refl
-or_swap false true = refl
-or_swap false false = refl
-
-and_swap : (x y : Bool) → (x && y) ≡ (y && x)
-and_swap true true = refl
-and_swap true false = refl
-and_swap false true = refl
-and_swap false false = refl
-
 pair_swap : (p : ℕ × ℕ) (u v : ℕ) → pair_is p u v ≡ pair_is p v u
 pair_swap p u v =
-    ap₂ (λ (x y : Bool). x || y) (and_swap (eqb u p.0) (eqb v p.1)) (and_swap (eqb u p.1) (eqb v p.0))
-    ∙ or_swap (eqb v p.1 && eqb u p.0) (eqb v p.0 && eqb u p.1)
+    ap₂ (λ (x y : Bool). x || y) (and_comm (eqb u p.0) (eqb v p.1)) (and_comm (eqb u p.1) (eqb v p.0))
+    ∙ or_comm (eqb v p.1 && eqb u p.0) (eqb v p.0 && eqb u p.1)
 
 kept_alone : (a : Dfa) → Kept a alone
 kept_alone a = record {

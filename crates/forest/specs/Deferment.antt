@@ -1,5 +1,5 @@
 -- The deferment forest of an automaton. Assumes nothing.
-use Rattle.std.specs.Prelude.{◌≡◌, ℕ, zero, suc, ◌+◌, ◌<◌, Bool, true, false, cond, not, ◌&&◌, ◌||◌, List, [], ◌∷◌, ◌++◌, None, Option, ◌==◌, nat_eq, nat_le, nat_lt, slice_index_or}
+use Rattle.std.specs.Prelude.{◌≡◌, ℕ, zero, suc, ◌+◌, ◌<◌, Bool, true, false, cond, not, ◌&&◌, ◌||◌, List, [], ◌∷◌, ◌++◌, None, Option, ◌==◌, nat_eq, nat_le, nat_lt}
 use Rattle.automaton.specs.Runs.{Dfa}
 use Rattle.forest.specs.Counting.{count, any, least, found}
 use Rattle.forest.specs.Forest.{Forest}
@@ -50,10 +50,6 @@ join f s t = record {
 abbrev pub kruskal : Trees → List (ℕ × ℕ) → Trees
 kruskal f [] = f
 kruskal f (p ∷ ps) = kruskal (cond (f.tree p.0 == f.tree p.1) f (join f p.0 p.1)) ps
-
--- what is joined, as arrays hold it: the pairs, and for each whether it was joined
-abbrev pub joined_in : List (ℕ × ℕ) → List Bool → ℕ → ℕ → ℕ → Bool
-joined_in pairs joined n u v = any (λ i. slice_index_or joined i false && pair_is (slice_index_or pairs i (0, 0)) u v) n
 
 -- the trees of an automaton: a pair shares at most 256 bytes
 unfoldable pub trees_of : Dfa → Trees

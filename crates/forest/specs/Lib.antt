@@ -4,6 +4,8 @@ pub mod Forest
 pub mod Codes
 pub mod Arrays
 pub mod Deferment
+pub mod Sharing
+pub mod Labels
 pub mod Joining
 pub mod Placing
 pub mod Table

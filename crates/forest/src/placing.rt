@@ -1,106 +1,92 @@
 // Depths and parents, found in rounds from the roots.
-ghost use Rattle.std.specs.Prelude.{◌≡◌, ℕ, ◌+◌, ◌<◌, length, get_or, if◌then◌else◌, None, slice_index, slice_index_or};
+ghost use Rattle.std.specs.Prelude.{◌≡◌, ℕ, ◌+◌, ◌<◌, ◌≤◌, length, if◌then◌else◌, Some, None, slice_index_or};
 ghost use Rattle.automaton.specs.Runs.{Dfa};
-ghost use Rattle.forest.specs.Deferment.{trees_of, depth_of, parent_of};
-ghost use Rattle.forest.specs.Placing.{visit_depths, visit_parents, Placed, Holds, Counted, better_in, root_in};
+ghost use Rattle.automaton.specs.Limits.{handed, dfa};
+ghost use Rattle.forest.specs.Deferment.{trees_of};
+ghost use Rattle.forest.specs.Joining.{trees_in};
+ghost use Rattle.forest.specs.Placing.{root_place, place_of, visited, Placed, better_in, beaten_in};
 
-// Places `t` below `s`, if `s` stands at depth `r` and `t` has no place yet: its depth is still the number of states.
-fn visit(depths: &mut [u16], parents: &mut [Option<u16>], r: u16, s: u16, t: u16)
-    requires inside { (s < length depths.old) × ((t < length depths.old) × (t < length parents.old)) }
+use crate::joining::Grove;
+use crate::sharing::ByteCounts;
+use ternary::words::StateNo;
+
+// Where a state stands: how many joins lead to its root, and the state that it defers to, unless it is a root.
+#[derive(Clone, Copy)]
+pub(crate) struct Place {
+    pub(crate) depth: u16,
+    pub(crate) parent: Option<StateNo>,
+}
+
+// Places `t` below `s`, if `s` stands at depth `r` and `t` has no place yet.
+fn visit(places: &mut [Option<Place>], r: u16, s: StateNo, t: StateNo)
+    requires inside { (s.0 < length places.old) × (t.0 < length places.old) }
     requires room { r < 65535 }
-    ensures depths { depths.new ≡ visit_depths depths.old (length depths.old) r s t }
-    ensures parents { parents.new ≡ visit_parents depths.old parents.old (length depths.old) r s t }
+    ensures { places.new ≡ visited places.old r s t }
 {
-    if depths[s as usize] == r && depths[t as usize] as usize == depths.len() {
-        depths[t as usize] = r + 1;
-        parents[t as usize] = Some(s);
+    let stands = places[s.0 as usize].is_some_and(|place| place.depth == r);
+    if stands && places[t.0 as usize].is_none() {
+        places[t.0 as usize] = Some(Place {
+            depth: r + 1,
+            parent: Some(s),
+        });
     }
 }
 
 // One round: every state without a place that is joined to a state at depth `r` is placed below it.
-fn place_round(
-    pairs: &[(u16, u16)],
-    joined: &[bool],
-    r: u16,
-    depths: &mut [u16],
-    parents: &mut [Option<u16>],
-)
-    requires inside { (i : ℕ) → i < length pairs.now → ((get_or pairs.now i (0, 0)).0 < length depths.old) × ((get_or pairs.now i (0, 0)).1 < length depths.old) }
-    requires sizes { (length parents.old ≡ length depths.old) × (length joined.now ≡ length pairs.now) }
+fn place_round(grove: &Grove, r: u16, places: &mut [Option<Place>])
+    requires size { length places.old ≡ 512 }
     requires room { r < 65535 }
-    ensures { (a : Dfa) → Holds a pairs.now joined.now → r < a.states →
-        Placed a (trees_of a) r depths.old parents.old →
-        Placed a (trees_of a) (r + 1) depths.new parents.new }
+    ensures { (a : Dfa) → trees_in grove.now ≡ trees_of a → r < a.states → Placed a (trees_of a) r places.old →
+        Placed a (trees_of a) (r + 1) places.new }
 {
-    for i in 0..pairs.len() {
-        if joined[i] {
-            let (s, t) = pairs[i];
-            visit(depths, parents, r, s, t);
-            visit(depths, parents, r, t, s);
+    for join in &grove.joins {
+        if let Some(join) = join {
+            visit(places, r, join.low, join.high);
+            visit(places, r, join.high, join.low);
         }
     }
 }
 
-// Whether `t` is a better root than `s`: more bytes lead to itself, or as many and its number is lower.
-fn is_better(loop_counts: &[u16], t: usize, s: usize) -> bool
-    requires { (t < length loop_counts.now) × (s < length loop_counts.now) }
-    ensures { result ≡ better_in loop_counts.now t s }
+// Whether `t` stands in the tree of `s` and is a better root: more bytes lead to itself, or as many and its number is lower.
+fn is_better(grove: &Grove, counts: &ByteCounts<'_>, t: usize, s: usize) -> bool
+    requires inside { (t < counts.now.automaton.states) × (s < counts.now.automaton.states) }
+    ensures { result ≡ better_in grove.now.labels (dfa (handed counts.now.automaton)) t s }
 {
-    if loop_counts[s] == loop_counts[t] {
-        t < s
-    } else {
-        loop_counts[s] < loop_counts[t]
-    }
+    grove.labels[t] == grove.labels[s] && (counts.loops(s), t) < (counts.loops(t), s)
 }
 
-// Whether no state of the tree of `s` is a better root.
-fn is_root(tree: &[u16], loop_counts: &[u16], s: usize) -> bool
-    requires { (s < length tree.now) × (length loop_counts.now ≡ length tree.now) }
-    ensures { result ≡ root_in tree.now loop_counts.now s }
+// Whether a state of the tree of `s` is a better root.
+fn is_beaten(grove: &Grove, counts: &ByteCounts<'_>, s: usize) -> bool
+    requires inside { s < counts.now.automaton.states }
+    ensures { result ≡ beaten_in grove.now.labels (dfa (handed counts.now.automaton)) s }
 {
-    for t in 0..tree.len() {
-        if tree[t] == tree[s] && is_better(loop_counts, t, s) {
-            return false;
-        }
-    }
-    true
+    (0..counts.states()).any(|t| is_better(grove, counts, t, s))
 }
 
-// Places the roots at depth 0, and no other state yet.
-fn place_roots(tree: &[u16], loop_counts: &[u16], depths: &mut [u16], parents: &mut [Option<u16>])
-    requires sizes { (length depths.old ≡ length tree.now) × ((length parents.old ≡ length tree.now) × (length loop_counts.now ≡ length tree.now)) }
-    requires room { length tree.now < 65536 }
-    ensures depths { (s : ℕ) → s < length tree.now → slice_index depths.new s ≡ (if root_in tree.now loop_counts.now s then 0 else length tree.now) }
-    ensures parents { (s : ℕ) → s < length tree.now → slice_index_or parents.new s None ≡ None }
+// Places the roots, and no other state yet.
+fn roots(grove: &Grove, counts: &ByteCounts<'_>) -> [Option<Place>; 512]
+    ensures { let a = dfa (handed counts.now.automaton) in
+        (s : ℕ) → s < a.states → slice_index_or result s None ≡ (if beaten_in grove.now.labels a s then None else Some root_place) }
 {
-    for s in 0..tree.len() {
-        if is_root(tree, loop_counts, s) {
-            depths[s] = 0;
-        } else {
-            depths[s] = tree.len() as u16;
-        }
-        parents[s] = None;
+    let mut places = [None; 512];
+    for (s, place) in places[..counts.states()].iter_mut().enumerate() {
+        *place = (!is_beaten(grove, counts, s)).then_some(Place {
+            depth: 0,
+            parent: None,
+        });
     }
+    places
 }
 
-// Finds the depth and the parent of every state.
-pub(crate) fn place_all(
-    tree: &[u16],
-    loop_counts: &[u16],
-    pairs: &[(u16, u16)],
-    joined: &[bool],
-    depths: &mut [u16],
-    parents: &mut [Option<u16>],
-)
-    requires inside { (i : ℕ) → i < length pairs.now → ((get_or pairs.now i (0, 0)).0 < length tree.now) × ((get_or pairs.now i (0, 0)).1 < length tree.now) }
-    requires sizes { (length depths.old ≡ length tree.now) × ((length parents.old ≡ length tree.now) × ((length loop_counts.now ≡ length tree.now) × (length joined.now ≡ length pairs.now))) }
-    requires room { length tree.now < 65536 }
-    ensures { (a : Dfa) → Counted a tree.now loop_counts.now → Holds a pairs.now joined.now →
-        (s : ℕ) → s < a.states →
-        (slice_index depths.new s ≡ depth_of a (trees_of a) s) × (slice_index_or parents.new s None ≡ parent_of a (trees_of a) s) }
+// Finds the place of every state of an automaton in its trees.
+pub(crate) fn places(grove: &Grove, counts: &ByteCounts<'_>) -> [Option<Place>; 512]
+    requires grown { trees_in grove.now ≡ trees_of (dfa (handed counts.now.automaton)) }
+    ensures { let a = dfa (handed counts.now.automaton) in
+        (s : ℕ) → s < a.states → slice_index_or result s None ≡ Some (place_of a (trees_of a) s) }
 {
-    place_roots(tree, loop_counts, depths, parents);
-    for r in 0..tree.len() {
-        place_round(pairs, joined, r as u16, depths, parents);
+    let mut places = roots(grove, counts);
+    for r in 0..counts.automaton.states {
+        place_round(grove, r, &mut places);
     }
+    places
 }

@@ -1,8 +1,9 @@
-use Rattle.std.proofs.Common.{◌≡◌, ℕ, ◌<◌, ◌≤◌, cond, eqb, get_or}
+use Rattle.std.proofs.Common.{◌≡◌, ℕ, ◌<◌, ◌≤◌, cond, eqb}
+use Rattle.forest.specs.Labels.{label}
 use Rattle.forest.proofs.joining.relabel.Given as goal
 
--- the states below i have their new numbers, the others still the old ones
-abbrev pub invariant-loop-i : goal.invariant-loop-i
-invariant-loop-i l =
-    ((k : ℕ) → k < l.i → get_or l.tree k 0 ≡ cond (eqb (get_or l.initial.tree k 0) l.from) l.to (get_or l.initial.tree k 0))
-    × ((k : ℕ) → l.i ≤ k → get_or l.tree k 0 ≡ get_or l.initial.tree k 0)
+-- the states so far have their new numbers, the others still the old ones
+abbrev pub invariant-loop-label : goal.invariant-loop-label
+invariant-loop-label l =
+    ((k : ℕ) → k < l.label-index → label l.labels k ≡ cond (eqb (label l.initial.labels k) l.ended.0) l.to.0 (label l.initial.labels k))
+    × ((k : ℕ) → l.label-index ≤ k → label l.labels k ≡ label l.initial.labels k)

@@ -1,37 +1,43 @@
-use Rattle.std.proofs.Common.{◌≡◌, ℕ, ◌+◌, ◌<◌, Bool, true, false, List, get_or, Option, sym, subst₂, arith}
-use Rattle.automaton.specs.Runs.{Dfa}
+use Rattle.std.proofs.Common.{ℕ, ◌+◌, ◌<◌, List, get_or, None, Option, sym, ap, ◌∙◌, subst, arith}
+use Rattle.forest.specs.declared.placing.Place.{Place}
 use Rattle.forest.specs.Deferment.{trees_of}
-use Rattle.forest.specs.Placing.{Placed, Done}
-use Rattle.forest.proofs.Places.{round_ends, pair_more, pair_passed}
+use Rattle.forest.specs.Placing.{Placed, visited}
+use Rattle.forest.proofs.Places.{Done, join_inside, grove_joined, twice_placed, join_more, none_more, round_ends}
 use Rattle.forest.proofs.placing.place_round.Goals as goal
-use Rattle.forest.proofs.placing.place_round.Goals.{then-joined-i, else-joined-i}
+use Rattle.forest.proofs.placing.place_round.Goals.{in-Some, in_default}
 
--- the invariant at the arrays d and q, after i pairs
-abbrev Kept_at : List (ℕ × ℕ) → List Bool → Dfa → ℕ → ℕ → List ℕ → List (Option ℕ) → Type 0
-Kept_at pairs joined a r i d q =
-    Placed a (trees_of a) r d q × ((k : ℕ) → k < i → get_or joined k false ≡ true → Done a (trees_of a) r d (get_or pairs k (0, 0)))
+pub visit-requires-clause-inside : goal.visit-requires-clause-inside
+visit-requires-clause-inside c =
+    let g = c.args.grove.now in
+    let w = join_inside g.labels g.joins g.numbered c.loop-join.join-index c.in-Some.join c.in-Some.is in
+    (omega (arith, w.0), omega (arith, w.1))
 
-pub loop-i-preserved : goal.loop-i-preserved
-loop-i-preserved c = λ a holds hr p.
-    let pairs = c.args.pairs.now in
-    let joined = c.args.joined.now in
+pub visit-requires-in-Some-clause-inside : goal.visit-requires-in-Some-clause-inside
+visit-requires-in-Some-clause-inside c =
+    let g = c.args.grove.now in
+    let w = join_inside g.labels g.joins g.numbered c.loop-join.join-index c.in-Some.join c.in-Some.is in
+    (omega (arith, w.1), omega (arith, w.0))
+
+pub loop-join-preserved : goal.loop-join-preserved
+loop-join-preserved c a grown hr p =
+    let items = c.args.grove.now.joins in
+    let holds = grove_joined a c.args.grove.now grown in
     let r = c.args.r in
-    let i = c.loop-i.i in
-    let hi = c.loop-i-test.true in
-    let q = c.loop-i.invariant a holds hr p in
-    elim c.if-joined-i.branch [
-      | then-joined-i w ↦
-          subst₂ (λ (d : List ℕ) (x : List (Option ℕ)). Kept_at pairs joined a r (i + 1) d x) (sym w.depths-is) (sym w.parents-is)
-          (pair_more a pairs joined holds r hr c.loop-i.depths c.loop-i.parents q.0 i hi q.1 w.if-joined-i.true
-          w.visit.new.depths w.visit-then-joined-i.new.depths w.visit.new.parents w.visit-then-joined-i.new.parents
-          w.visit.ensures.depths w.visit.ensures.parents w.visit-then-joined-i.ensures.depths w.visit-then-joined-i.ensures.parents)
-      | else-joined-i w ↦
-          subst₂ (λ (d : List ℕ) (x : List (Option ℕ)). Kept_at pairs joined a r (i + 1) d x) (sym w.depths-is) (sym w.parents-is)
-          (q.0, pair_passed a pairs joined holds r hr c.loop-i.depths c.loop-i.parents q.0 i hi q.1 w.if-joined-i.false)
+    let i = c.loop-join.join-index in
+    let places = c.loop-join.places in
+    let q = c.loop-join.invariant a grown hr p in
+    let Kept_at : List (Option Place) → Type 0 = λ d. Placed a (trees_of a) r d × ((k : ℕ) → k < i + 1 → Done a (trees_of a) r d (get_or items k None)) in
+    elim c.match-join.branch [
+      | in-Some w ↦
+          let j = w.in-Some.join in
+          subst Kept_at (sym (w.places-is ∙ (w.visit-in-Some.ensures ∙ ap (λ (d : List (Option Place)). visited d r j.high j.low) w.visit.ensures))) (
+            twice_placed a items holds r hr places q.0 i (omega arith) q.1 j.low j.high w.in-Some.is,
+            join_more a items holds r hr places q.0 i (omega arith) q.1 j.low j.high w.in-Some.is,
+          )
+      | in_default w ↦ subst Kept_at (sym w.places-is) (q.0, none_more a items holds r hr places q.0 i (omega arith) q.1 w.in_default.is)
     ]
 
 pub returns : goal.returns
-returns c = λ a holds hr p.
-    let q = c.loop-i.invariant a holds hr p in
-    round_ends a c.args.pairs.now c.args.joined.now holds c.args.r c.loop-i.depths c.loop-i.parents q.0
-    (λ i hi fl. q.1 i (omega arith) fl)
+returns c a grown hr p =
+    let q = c.loop-join.invariant a grown hr p in
+    round_ends a c.args.grove.now.joins (grove_joined a c.args.grove.now grown) c.args.r c.loop-join.places q.0 (λ k hk. q.1 k (omega arith))

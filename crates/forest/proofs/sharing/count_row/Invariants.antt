@@ -1,7 +1,7 @@
 use Rattle.std.proofs.Common.{◌≡◌, ℕ, ◌+◌, ◌*◌, ◌<◌, get_or}
 use Rattle.automaton.specs.Limits.{handed, dfa}
 use Rattle.forest.specs.Deferment.{shared}
-use Rattle.forest.specs.Joining.{RowsCounted}
+use Rattle.forest.specs.Sharing.{RowsCounted}
 use Rattle.forest.proofs.sharing.count_row.Given as goal
 
 -- the rows before are kept, and this row is counted below t
