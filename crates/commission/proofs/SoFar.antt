@@ -5,8 +5,7 @@ use Rattle.std.proofs.lemmas.Bool.{false≢true}
 use Rattle.scanner.specs.Book.{Book, blank}
 use Rattle.scanner.specs.Scanners.{Seen, Keeps, KeepsOn}
 use Rattle.commission.specs.declared.words.Call.{Call}
-use Rattle.commission.specs.declared.words.Answer.{Answer}
-use Rattle.commission.specs.Journeys.{told, Turn, Turns, done, BookSays, Ran}
+use Rattle.commission.specs.Journeys.{Answer, told, Turn, Turns, done, BookSays, Ran}
 use Rattle.commission.proofs.Certain.{one_answer}
 use Rattle.commission.proofs.Marking.{turns_push, marks_are_the_journeys, never_no_entry}
 

@@ -1,5 +1,5 @@
 -- What a scanner owes its owner over whole runs of calls. Assumes nothing.
-use Rattle.std.specs.Prelude.{◌≡◌, ℕ, ◌<◌, Bool, true, List, [], ◌∷◌, ◌++◌, map, length, take, Some, None, vec_items, Option, ◌≢◌, slice_index_or}
+use Rattle.std.specs.Prelude.{◌≡◌, ℕ, ◌<◌, Bool, true, List, [], ◌∷◌, ◌++◌, map, length, take, Some, None, Ok, Err, Result, vec_items, Option, ◌≢◌, slice_index_or}
 use Rattle.ternary.specs.Marks.{Marked, marked}
 use Rattle.ternary.specs.Refusals.{number, values}
 use Rattle.automaton.specs.Limits.{Handed, dfa}
@@ -8,8 +8,9 @@ use Rattle.scanner.specs.Book.{Told, declined, accepted, fed, Book, blank, Loads
 use Rattle.commission.specs.declared.words.Filing.{Filing}
 use Rattle.commission.specs.declared.words.Call.{Call}
 use Rattle.commission.specs.declared.words.Call.TheVariants.{Load, Feed, Restart}
-use Rattle.commission.specs.declared.words.Answer.{Answer}
-use Rattle.commission.specs.declared.words.Answer.TheVariants.{Accepted, Fed, Refused}
+use Rattle.commission.specs.declared.words.Done.{Done}
+use Rattle.commission.specs.declared.words.Done.TheVariants.{Accepted, Fed}
+use Rattle.ternary.specs.declared.refusal.Refusal.{Refusal}
 
 -- ---- the journey book over a run
 
@@ -17,11 +18,19 @@ use Rattle.commission.specs.declared.words.Answer.TheVariants.{Accepted, Fed, Re
 abbrev pub filed : Filing → Handed
 filed f = record { states = f.states; start = f.start.0; successors = vec_items f.successors; classes = vec_items f.classes }
 
+-- what a call that is not declined tells
+abbrev pub told_done : Done → Told
+told_done Accepted = accepted
+told_done (Fed p ms) = fed p.taken p.marks (map marked (vec_items ms)) p.code.0 p.marks_full p.searches
+
+-- what a call answers: what it did, or a refusal
+abbrev pub Answer : Type 0
+Answer = Result Done Refusal
+
 -- what an answer tells
 abbrev pub told : Answer → Told
-told Accepted = accepted
-told (Fed p ms) = fed p.taken p.marks (map marked (vec_items ms)) p.code.0 p.marks_full p.searches
-told (Refused why) = declined (number why) (values why)
+told (Ok done) = told_done done
+told (Err why) = declined (number why) (values why)
 
 -- one call: the book before it, what it is told, the book after it
 abbrev pub Turn : ℕ → Call → Book → Told → Book → Type 0

@@ -3,8 +3,7 @@ ghost use Rattle.scanner.specs.Scanners.{seen, KeepsOn};
 ghost use Rattle.commission.specs.declared.words.Call.TheVariants.{Load, Feed, Restart};
 ghost use Rattle.commission.specs.Journeys.{told, Turn, Ran};
 
-use crate::words::{Answer, Call, Filing};
-use automaton::words::Automaton;
+use crate::words::{Answer, Call, Done, Filing};
 use card::rules::Card;
 use scanner::scanner::Scanner;
 use std::alloc::{AllocError, Global};
@@ -48,16 +47,8 @@ fn load<C: Card>(scanner: &mut Scanner<C>, filing: &Filing) -> Answer
     ensures capacity { C.size scanner.new.card ≡ C.size scanner.old.card }
     ensures keeps { KeepsOn (Turn (C.size scanner.old.card) (Load filing.now)) (seen C.entries C.size scanner.old) (told result) (seen C.entries C.size scanner.new) }
 {
-    let automaton = Automaton {
-        states: filing.states,
-        start: filing.start,
-        successors: filing.successors.as_slice(),
-        classes: filing.classes.as_slice(),
-    };
-    match scanner.load(automaton, filing.image.as_slice()) {
-        Ok(()) => Answer::Accepted,
-        Err(why) => Answer::Refused(why),
-    }
+    let answer = scanner.load(filing.automaton(), filing.image.as_slice());
+    answer.map(|()| Done::Accepted)
 }
 
 // A feed of a piece, with so many slots for marks.
@@ -70,13 +61,13 @@ fn feed<C: Card>(
     ensures capacity { C.size scanner.new.card ≡ C.size scanner.old.card }
     ensures keeps { IfOk result (λ a. KeepsOn (Turn (C.size scanner.old.card) (Feed piece.now slots)) (seen C.entries C.size scanner.old) (told a) (seen C.entries C.size scanner.new)) }
 {
-    let mut marks = vec![in heap; Mark { place: 0, class: 0 }; slots]?;
+    let mut marks = vec![in heap; Mark::default(); slots]?;
     match scanner.feed(piece.as_slice(), marks.as_mut_slice()) {
         Ok(progress) => {
             marks.truncate(progress.marks);
-            Ok(Answer::Fed(progress, marks))
+            Ok(Ok(Done::Fed(progress, marks)))
         }
-        Err(why) => Ok(Answer::Refused(why)),
+        Err(why) => Ok(Err(why)),
     }
 }
 
@@ -85,8 +76,6 @@ fn restart<C: Card>(scanner: &mut Scanner<C>) -> Answer
     ensures capacity { C.size scanner.new.card ≡ C.size scanner.old.card }
     ensures keeps { KeepsOn (Turn (C.size scanner.old.card) Restart) (seen C.entries C.size scanner.old) (told result) (seen C.entries C.size scanner.new) }
 {
-    match scanner.restart() {
-        Ok(()) => Answer::Accepted,
-        Err(why) => Answer::Refused(why),
-    }
+    let answer = scanner.restart();
+    answer.map(|()| Done::Accepted)
 }

@@ -1,15 +1,34 @@
+ghost use Rattle.std.specs.Prelude.{◌≡◌};
+ghost use Rattle.automaton.specs.Limits.{handed};
+ghost use Rattle.commission.specs.Journeys.{filed};
+
+use automaton::words::Automaton;
 use std::alloc::AllocError;
 use ternary::refusal::Refusal;
 use ternary::words::{Mark, Progress, StateNo};
 
 // An automaton with the bytes of an image for it, as an operator files them.
-#[derive(Drop)]
+#[derive(Clone, Drop)]
 pub struct Filing {
     pub states: u16,
     pub start: StateNo,
     pub successors: Vec<StateNo>,
     pub classes: Vec<u8>,
     pub image: Vec<u8>,
+}
+
+impl Filing {
+    // The automaton, as it is handed to calls.
+    pub fn automaton(&self) -> Automaton<'_>
+        ensures { handed result ≡ filed self.now }
+    {
+        Automaton {
+            states: self.states,
+            start: self.start,
+            successors: self.successors.as_slice(),
+            classes: self.classes.as_slice(),
+        }
+    }
 }
 
 // One call of a scanner, with all that is passed to it: what is loaded; a piece and how many mark slots there are for
@@ -21,13 +40,15 @@ pub enum Call {
     Restart,
 }
 
-// What a call of a scanner answers: a load or a restart that is accepted, a feed with its marks, or a refusal.
+// What a call of a scanner did: a load or a restart that is accepted, or a feed with its marks.
 #[derive(Drop)]
-pub enum Answer {
+pub enum Done {
     Accepted,
     Fed(Progress, Vec<Mark>),
-    Refused(Refusal),
 }
+
+// What a call of a scanner answers: what it did, or a refusal.
+pub type Answer = Result<Done, Refusal>;
 
 // What a commission did: what check answered of the vendor's image, the size of the image that was built and accepted,
 // the answers of the calls, and whether memory sufficed for all of them.
