@@ -9,8 +9,6 @@ use std::io;
 use ternary::entry::Entry;
 use ternary::words::{Mark, StateCode};
 
-const NO_MARK: Mark = Mark { place: 0, class: 0 };
-
 fn main(rt: HostRuntime) -> io::Result<()> {
     let mut whole = places();
     let mut list = ListCard::new(&mut whole);
@@ -32,7 +30,7 @@ fn main(rt: HostRuntime) -> io::Result<()> {
 
 // Room for three entries.
 fn places() -> [Entry; 3] {
-    [Entry::new(0, 0, 0, 0, StateCode(0), 0); 3]
+    [Entry::default(); 3]
 }
 
 // The entries that mark each "ab" with class 7, over codes of two bits.
@@ -48,11 +46,11 @@ fn entries_ab() -> [Entry; 3] {
 fn show<C: Card>(rt: &HostRuntime, name: &str, card: &mut C) -> io::Result<()> {
     for e in entries_ab() {
         if let Err(refusal) = card.append(e) {
-            println!(rt; "{name}: refused {}", refusal.number())?;
+            println!(rt; "{name}: {refusal}")?;
         }
     }
-    show_walk(rt, name, card, &mut [NO_MARK; 2])?;
-    show_walk(rt, name, card, &mut [NO_MARK; 1])
+    show_walk(rt, name, card, &mut [Mark::default(); 2])?;
+    show_walk(rt, name, card, &mut [Mark::default(); 1])
 }
 
 // Walks over "xabab" from code 0, and shows the answer and the marks.
@@ -76,6 +74,6 @@ fn show_walk<C: Card>(
                 progress.searches
             )
         }
-        Err(refusal) => println!(rt; "{name}, slots {slots}: refused {}", refusal.number()),
+        Err(refusal) => println!(rt; "{name}, slots {slots}: {refusal}"),
     }
 }

@@ -5,15 +5,13 @@
 // piece, a restart, and the whole stream once more as one piece with one mark slot.
 use anyhow::Context;
 use automaton::file::read;
-use automaton::words::Automaton;
 use card::list::ListCard;
 use commission::commission::commission;
-use commission::words::{Answer, Call, Filing, Report};
+use commission::words::{Answer, Call, Done, Filing, Report};
 use std::alloc::{AllocError, Global};
 use std::{env, fs, io};
 use ternary::entry::Entry;
-use ternary::refusal::Refusal;
-use ternary::words::{StateCode, StateNo};
+use ternary::words::StateNo;
 
 // The bytes of a piece, and the mark slots for it.
 const PIECE: usize = 8;
@@ -49,7 +47,7 @@ fn serve(rt: &HostRuntime) -> anyhow::Result<()> {
         classes.as_mut_slice(),
     ) {
         Ok(header) => header,
-        Err(why) => return Ok(print_refusal(rt, "read", &why)?),
+        Err(why) => return Ok(println!(rt; "read: {why}")?),
     };
     let states = header.states as usize;
     successors.truncate(256 * states);
@@ -68,18 +66,12 @@ fn serve(rt: &HostRuntime) -> anyhow::Result<()> {
 fn show(rt: &HostRuntime, filing: Filing, stream: &[u8]) -> io::Result<()> {
     let heap = rt.alloc();
     let calls = journey(heap, &filing, stream)?;
-    let automaton = Automaton {
-        states: filing.states,
-        start: filing.start,
-        successors: filing.successors.as_slice(),
-        classes: filing.classes.as_slice(),
-    };
     let mut work = vec![in heap; 0; WORK]?;
     let mut out = vec![in heap; 0; LARGEST_IMAGE]?;
-    let mut places = vec![in heap; Entry::new(0, 0, 0, 0, StateCode(0), 0); 4096]?;
+    let mut places = vec![in heap; Entry::default(); 4096]?;
     let report = commission(
         heap,
-        automaton,
+        filing.automaton(),
         filing.image.as_slice(),
         work.as_mut_slice(),
         out.as_mut_slice(),
@@ -93,7 +85,7 @@ fn show(rt: &HostRuntime, filing: Filing, stream: &[u8]) -> io::Result<()> {
 fn journey(heap: Global, filing: &Filing, stream: &[u8]) -> Result<Vec<Call>, AllocError> {
     let mut calls = Vec::new(heap);
     calls.push(Call::Restart)?;
-    calls.push(Call::Load(copy(heap, filing)?))?;
+    calls.push(Call::Load(filing.clone()?))?;
     for piece in stream.chunks(PIECE) {
         calls.push(Call::Feed(piece.to_vec(heap)?, SLOTS))?;
     }
@@ -102,26 +94,15 @@ fn journey(heap: Global, filing: &Filing, stream: &[u8]) -> Result<Vec<Call>, Al
     Ok(calls)
 }
 
-// Another copy of what is filed.
-fn copy(heap: Global, filing: &Filing) -> Result<Filing, AllocError> {
-    Ok(Filing {
-        states: filing.states,
-        start: filing.start,
-        successors: filing.successors.as_slice().to_vec(heap)?,
-        classes: filing.classes.as_slice().to_vec(heap)?,
-        image: filing.image.as_slice().to_vec(heap)?,
-    })
-}
-
 // Prints check's answer, build's, and each call's with its marks.
 fn print_report(rt: &HostRuntime, report: Report, calls: &[Call]) -> io::Result<()> {
     match report.vendor {
         Ok(()) => println!(rt; "check: accepted")?,
-        Err(why) => print_refusal(rt, "check", &why)?,
+        Err(why) => println!(rt; "check: {why}")?,
     }
     match report.built {
         Ok(size) => println!(rt; "build: {size} bytes")?,
-        Err(why) => print_refusal(rt, "build", &why)?,
+        Err(why) => println!(rt; "build: {why}")?,
     }
     for (call, answer) in calls.iter().zip(report.answers.iter()) {
         print_answer(rt, name(call), answer)?;
@@ -144,9 +125,9 @@ fn name(call: &Call) -> &'static str {
 // Prints the answer of a call.
 fn print_answer(rt: &HostRuntime, name: &str, answer: &Answer) -> io::Result<()> {
     match answer {
-        Answer::Accepted => println!(rt; "{name}: accepted"),
-        Answer::Refused(why) => print_refusal(rt, name, why),
-        Answer::Fed(progress, marks) => {
+        Ok(Done::Accepted) => println!(rt; "{name}: accepted"),
+        Err(why) => println!(rt; "{name}: {why}"),
+        Ok(Done::Fed(progress, marks)) => {
             let taken = progress.taken;
             let code = progress.code.0;
             let searches = progress.searches;
@@ -156,14 +137,5 @@ fn print_answer(rt: &HostRuntime, name: &str, answer: &Answer) -> io::Result<()>
             }
             println!(rt; "")
         }
-    }
-}
-
-// Prints the number of a refusal, and the offset of a malformed file or image.
-fn print_refusal(rt: &HostRuntime, name: &str, why: &Refusal) -> io::Result<()> {
-    let number = why.number();
-    match why.offset() {
-        Some(at) => println!(rt; "{name}: refused {number} at {at}"),
-        None => println!(rt; "{name}: refused {number}"),
     }
 }

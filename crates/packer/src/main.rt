@@ -5,7 +5,6 @@ use image::reader::{Image, unpack};
 use image::writer::pack;
 use std::io;
 use ternary::entry::Entry;
-use ternary::refusal::Refusal;
 use ternary::words::{StateCode, StateNo};
 
 // The entries of the table: after 'a' a 'b' leads to the marked state, an 'a' leads to the state after
@@ -32,31 +31,27 @@ fn print_bytes(rt: &HostRuntime, bytes: &[u8]) -> io::Result<()> {
 
 // Prints the codes of an image, state by state.
 fn print_codes(rt: &HostRuntime, image: &Image) -> io::Result<()> {
-    for state in 0..image.header().states {
-        if let Some(code) = image.code(StateNo(state)) {
-            let bits = code.0;
-            println!(rt; "state {state}: code {bits:04x}")?;
-        }
+    for (state, code) in (0..image.header().states).zip(image.codes()) {
+        let bits = code.0;
+        println!(rt; "state {state}: code {bits:04x}")?;
     }
     Ok(())
 }
 
 // Prints the entries of an image in their order.
 fn print_entries(rt: &HostRuntime, image: &Image) -> io::Result<()> {
-    for index in 0..image.header().entries {
-        if let Some(entry) = image.entry(index as usize) {
-            print!(rt;
-                "entry {index}: code {:04x} under {:04x}, ",
-                entry.code_value(),
-                entry.code_mask()
-            )?;
-            print!(rt;
-                "byte {:02x} under {:02x}, ",
-                entry.byte_value(),
-                entry.byte_mask()
-            )?;
-            println!(rt; "next {:04x}, class {}", entry.next().0, entry.class())?;
-        }
+    for (index, entry) in (0..image.header().entries).zip(image.entries()) {
+        print!(rt;
+            "entry {index}: code {:04x} under {:04x}, ",
+            entry.code_value(),
+            entry.code_mask()
+        )?;
+        print!(rt;
+            "byte {:02x} under {:02x}, ",
+            entry.byte_value(),
+            entry.byte_mask()
+        )?;
+        println!(rt; "next {:04x}, class {}", entry.next().0, entry.class())?;
     }
     Ok(())
 }
@@ -72,22 +67,17 @@ fn print_image(rt: &HostRuntime, image: &Image) -> io::Result<()> {
     print_entries(rt, image)
 }
 
-// Prints the number of a refusal.
-fn print_refusal(rt: &HostRuntime, refusal: Refusal) -> io::Result<()> {
-    println!(rt; "refused {}", refusal.number())
-}
-
 fn main(rt: HostRuntime) -> io::Result<()> {
     let codes = [StateCode(0), StateCode(1), StateCode(2)];
     let mut out = [0; 64];
     let size = match pack(2, StateNo(0), &codes, &entries(), &mut out) {
         Ok(size) => size,
-        Err(refusal) => return print_refusal(&rt, refusal),
+        Err(refusal) => return println!(rt; "{refusal}"),
     };
     println!(rt; "{size} bytes")?;
     print_bytes(&rt, &out[0..size])?;
     match unpack(&out[0..size]) {
         Ok(image) => print_image(&rt, &image),
-        Err(refusal) => print_refusal(&rt, refusal),
+        Err(refusal) => println!(rt; "{refusal}"),
     }
 }
