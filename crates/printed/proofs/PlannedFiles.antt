@@ -11,7 +11,8 @@ use Rattle.automaton.specs.Limits.{Handed, Within, dfa}
 use Rattle.automaton.proofs.Reading.{header_is, count_is, length-rows, length-classes, front_written}
 use Rattle.forest.specs.declared.plan.Plan.{Plan}
 use Rattle.forest.specs.Plan.{PlanOf, PlanAnswer}
-use Rattle.printed.specs.Lines.{refusal_text, ended, small_answer, automaton_in, FilePlan, read_text}
+use Rattle.ternary.specs.Refusals.{refusal_text}
+use Rattle.printed.specs.Lines.{ended, small_answer, automaton_in, FilePlan, read_text}
 use Rattle.printed.proofs.Summaries.{read_small}
 
 module _ (file : List ℕ) (h : Header) (is : Ok h ≡ small_answer file) where

@@ -1,10 +1,10 @@
 -- The lines that are printed, by their bytes. Assumes nothing.
-use Rattle.std.specs.Prelude.{◌≡◌, ℕ, zero, suc, ◌+◌, Bool, true, false, cond, List, [], ◌∷◌, ◌++◌, length, Some, None, Ok, Err, codes, decimal, Option, Result, MatchResult, ◌==◌, nat_le}
+use Rattle.std.specs.Prelude.{◌≡◌, ℕ, zero, suc, Bool, true, false, cond, List, [], ◌∷◌, ◌++◌, length, Some, None, Ok, Err, codes, decimal, Option, Result, MatchResult, ◌==◌, nat_le, count_by, not}
 use Rattle.ternary.specs.declared.entry.Entry.{Entry}
 use Rattle.ternary.specs.declared.refusal.Refusal.{Refusal}
 use Rattle.ternary.specs.declared.refusal.Refusal.TheVariants.{OutputTooShort}
 use Rattle.ternary.specs.Bits.{bit}
-use Rattle.ternary.specs.Refusals.{number, offset}
+use Rattle.ternary.specs.Refusals.{refusal_text}
 use Rattle.ternary.specs.declared.words.StateNo.{StateNo}
 use Rattle.automaton.specs.declared.words.Header.{Header}
 use Rattle.automaton.specs.File.{decode, rows, classes, read_answer}
@@ -17,19 +17,9 @@ use Rattle.forest.specs.Forest.{Forest}
 use Rattle.forest.specs.Plan.{PlanOf, placement_of}
 use Rattle.printed.specs.declared.summary.Summary.{Summary}
 
--- a refusal's number, and its offset if it has one
-abbrev pub number_text : ℕ → Option ℕ → List ℕ
-number_text n None = codes "refused " ++ decimal n
-number_text n (Some at) = codes "refused " ++ (decimal n ++ (codes " at " ++ decimal at))
-
--- a refusal as it is printed
-abbrev pub refusal_text : Refusal → List ℕ
-refusal_text e = number_text (number e) (offset e)
-
 -- how many classes mark: those from 1 to 255
 abbrev pub marking : List ℕ → ℕ
-marking [] = 0
-marking (c ∷ cs) = cond (c == 0) 0 1 + marking cs
+marking cs = count_by (λ c. not (c == 0)) cs
 
 -- a summary: how many states, the start state, how many states mark
 abbrev pub summary_text : Summary → List ℕ

@@ -53,10 +53,7 @@ fn symbol(compared: bool, set: bool) -> char
 fn is_compared(mask: Option<u16>, place: u8) -> bool
     ensures { result ≡ compares mask place }
 {
-    match mask {
-        Some(mask) => bit_at(mask, place),
-        None => true,
-    }
+    mask.is_none_or(|mask| bit_at(mask, place))
 }
 
 // Whether the bit at a place is set; the lowest stands at place 0.

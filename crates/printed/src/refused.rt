@@ -1,5 +1,5 @@
 ghost use Rattle.std.specs.Prelude.{◌≡◌, IfOk, string_bytes};
-ghost use Rattle.printed.specs.Lines.{refusal_text};
+ghost use Rattle.ternary.specs.Refusals.{refusal_text};
 
 use std::alloc::{AllocError, Global};
 use ternary::refusal::Refusal;
@@ -8,9 +8,5 @@ use ternary::refusal::Refusal;
 pub fn refusal_line(heap: Global, refusal: Refusal) -> Result<String, AllocError>
     ensures { IfOk result (λ s. string_bytes s ≡ refusal_text refusal) }
 {
-    let number = refusal.number();
-    match refusal.offset() {
-        Some(at) => format!(in heap; "refused {number} at {at}"),
-        None => format!(in heap; "refused {number}"),
-    }
+    format!(in heap; "{refusal}")
 }

@@ -1,9 +1,10 @@
-ghost use Rattle.std.specs.Prelude.{◌≡◌, IfOk, string_bytes};
+ghost use Rattle.std.specs.Prelude.{◌≡◌, IfOk, Some, string_bytes};
 ghost use Rattle.printed.specs.Lines.{marking, summarized, summary_text, line_of};
 
 use crate::reading::{MOST_STATES, MOST_SUCCESSORS, read_small};
 use crate::refused::refusal_line;
 use std::alloc::{AllocError, Global};
+use std::fmt;
 use ternary::refusal::Refusal;
 use ternary::words::StateNo;
 
@@ -30,10 +31,19 @@ impl Summary {
     pub fn line(&self, heap: Global) -> Result<String, AllocError>
         ensures { IfOk result (λ s. string_bytes s ≡ summary_text self.now) }
     {
+        format!(in heap; "{self}")
+    }
+}
+
+// As a summary is printed: how many states, the start state, how many states mark.
+impl fmt::Display for Summary {
+    ghost output = { λ summary. Some (summary_text summary) };
+
+    fn fmt<W: fmt::Write>(&self, f: &mut fmt::Formatter<W>) -> fmt::Result {
         let states = self.states;
         let start = self.start.0;
         let marking = self.marking;
-        format!(in heap; "{states} states, start {start}, {marking} marking")
+        write!(f, "{states} states, start {start}, {marking} marking")
     }
 }
 
@@ -56,11 +66,5 @@ pub fn summarize(file: &[u8]) -> Result<Summary, Refusal>
 fn count_marking(classes: &[u8]) -> usize
     ensures { result ≡ marking classes.now }
 {
-    let mut count = 0;
-    for class in classes {
-        if *class != 0 {
-            count += 1;
-        }
-    }
-    count
+    classes.iter().filter(|class| **class != 0).count()
 }
