@@ -13,6 +13,8 @@ use Rattle.forest.specs.declared.plan.Plan.{Plan}
 use Rattle.forest.specs.Plan.{PlanOf, PlanAnswer}
 use Rattle.ternary.specs.Refusals.{refusal_text}
 use Rattle.printed.specs.Lines.{ended, small_answer, automaton_in, FilePlan, read_text}
+use Rattle.printed.specs.declared.reading.SmallAutomaton.{SmallAutomaton}
+use Rattle.printed.specs.Small.{held, ReadSmall}
 use Rattle.printed.proofs.Summaries.{read_small}
 
 module _ (file : List ℕ) (h : Header) (is : Ok h ≡ small_answer file) where
@@ -35,10 +37,16 @@ module _ (file : List ℕ) (h : Header) (is : Ok h ≡ small_answer file) where
     | inr (number, inside, short) ↦ omega (arith, mul-le a.states a.states 64 64 few few)
   ]
 
-  pub file_planned : (a : Handed) → a ≡ automaton_in file → Within a → a.states ≤ 64 → (work work' : List ℕ) → length work ≡ 12288 → (r : Result Plan Refusal) → PlanAnswer a work work' r → FilePlan file (small_answer file) r
-  file_planned a same within few work work' room r told = subst (λ (x : Result Header Refusal). FilePlan file x r) is (planned_held a same within few work work' room r told)
+pub file_planned : (file : List ℕ) (x : Result Header Refusal) → x ≡ small_answer file → (s : SmallAutomaton) → ReadSmall file x (Ok s) → (a : Handed) → a ≡ held s → (work work' : List ℕ) → length work ≡ 12288 → (r : Result Plan Refusal) → PlanAnswer a work work' r → FilePlan file x r
+file_planned file (Ok h) e s (header, same, within) a is work work' room r told =
+    planned_held file h e a (is ∙ same) (subst Within (sym is) within) (omega (arith, ap (λ (x : Handed). x.states) is, s.few)) work work' room r told
+file_planned file (Err why) e s read a is work work' room r told = absurd (let z : ◌≡◌ {A = ℕ} 0 1 = cc in omega arith)
 
 -- where planning a file is refused, the refusal is printed
 pub refused_text : (file : List ℕ) (x : Result Header Refusal) (e : Refusal) → FilePlan file x (Err e) → ended (refusal_text e) ≡ read_text file x
 refused_text file (Ok h) e told = absurd told
 refused_text file (Err e') e told = ap (λ (y : Refusal). ended (refusal_text y)) (cc)
+
+-- what is read of a file that answers so
+pub small_told : (file : List ℕ) (h : Header) (x : Result Header Refusal) → Ok h ≡ x → (s : SmallAutomaton) → (s.header ≡ h) × (held s ≡ automaton_in file) × Within (held s) → ReadSmall file x (Ok s)
+small_told file h x e s facts = subst (λ x. ReadSmall file x (Ok s)) e facts

@@ -1,12 +1,14 @@
 -- The summary of a file that was read.
-use Rattle.std.proofs.Common.{◌≡◌, ℕ, ◌≤◌, Bool, true, false, cond, leb, List, length, take, Ok, Err, Result, sym, refl, ap, ◌∙◌, arith}
+use Rattle.std.proofs.Common.{◌≡◌, ℕ, ◌≤◌, Bool, true, false, cond, leb, List, length, Ok, Err, Result, sym, refl, ap, ◌∙◌, arith}
 use Rattle.std.proofs.lemmas.Bool.{cond-true, le-leb}
 use Rattle.ternary.specs.declared.refusal.Refusal.{Refusal}
 use Rattle.ternary.specs.declared.refusal.Refusal.TheVariants.{OutputTooShort}
-use Rattle.fields.specs.Fields.{written}
 use Rattle.automaton.specs.declared.words.Header.{Header}
-use Rattle.automaton.specs.File.{decode, classes, read_answer}
-use Rattle.automaton.proofs.Reading.{count_is, length-classes, front_written}
+use Rattle.automaton.specs.File.{read_answer}
+use Rattle.automaton.specs.declared.words.Automaton.{Automaton}
+use Rattle.automaton.specs.Limits.{Handed, handed}
+use Rattle.printed.specs.declared.reading.SmallAutomaton.{SmallAutomaton}
+use Rattle.printed.specs.Small.{held, ReadSmall}
 use Rattle.printed.specs.Lines.{marking, summary_of, small_answer, summarized}
 
 -- a header answers only a file that is not too long
@@ -30,9 +32,11 @@ module _ (file : List ℕ) (h : Header) (is : Ok h ≡ small_answer file) where
   pub read_small : Ok h ≡ read_answer file 16384 64
   read_small = small_read (leb (length file) 65536) h (read_answer file 16384 64) OutputTooShort is
 
-  -- the classes that are counted are those of the file
-  pub summary_is : (buffer after : List ℕ) (count : ℕ) → after ≡ written buffer 0 (classes (decode file)) → count ≡ marking (take h.states after) → Ok (record { states = h.states; start = h.start; marking = count }) ≡ summarized file
-  summary_is buffer after count filled counted =
-      let front = ap (take h.states) filled ∙ front_written buffer (classes (decode file)) h.states (length-classes (decode file).states h.states (count_is file h 16384 64 read_small)) in
-      ap (λ (k : ℕ). Ok (record { states = h.states; start = h.start; marking = k })) (counted ∙ ap marking front)
-      ∙ (ap (summary_of file) is ∙ small_summary file)
+-- the summary of an automaton that was read is the summary of the file
+pub summary_is : (file : List ℕ) (x : Result Header Refusal) → x ≡ small_answer file → (s : SmallAutomaton) → ReadSmall file x (Ok s) → (a : Automaton) → handed a ≡ held s → (count : ℕ) → count ≡ marking a.classes.now → Ok (record { states = a.states; start = a.start; marking = count }) ≡ summarized file
+summary_is file (Ok h) e s (header, same, within) a is count counted =
+    let states = ap (λ (x : Handed). x.states) is ∙ ap (λ (x : Header). x.states) header in
+    let start = ap (λ (x : Handed). x.start) is ∙ ap (λ (x : Header). x.start.0) header in
+    let marks = counted ∙ ap (λ (x : Handed). marking x.classes) (is ∙ same) in
+    (λ i. Ok (record { states = states i; start = record { 0 = start i }; marking = marks i })) ∙ (ap (summary_of file) e ∙ small_summary file)
+summary_is file (Err why) e s read a is count counted = absurd (let z : ◌≡◌ {A = ℕ} 0 1 = cc in omega arith)

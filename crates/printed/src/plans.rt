@@ -6,9 +6,8 @@ ghost use Rattle.forest.specs.Plan.{PlanOf, placement_of};
 ghost use Rattle.printed.specs.Lines.{width_text, parent_text, place_text, state_text, ended, plan_text, small_answer, FilePlan, file_text};
 
 use crate::bits::{code_text, word_text};
-use crate::reading::{MOST_STATES, MOST_SUCCESSORS, read_small};
+use crate::reading::SmallAutomaton;
 use crate::refused::refusal_line;
-use automaton::words::Automaton;
 use forest::plan::{Placement, Plan};
 use std::alloc::{AllocError, Global};
 use ternary::refusal::Refusal;
@@ -32,18 +31,9 @@ pub fn file_text(heap: Global, file: &[u8]) -> Result<String, AllocError>
 pub fn plan_file(file: &[u8]) -> Result<Plan, Refusal>
     ensures { FilePlan file.now (small_answer file.now) result }
 {
-    let mut successors = [StateNo(0); MOST_SUCCESSORS];
-    let mut classes = [0; MOST_STATES];
+    let small = SmallAutomaton::read(file)?;
     let mut work = [0; WORK];
-    let header = read_small(file, &mut successors, &mut classes)?;
-    let states = header.states as usize;
-    let automaton = Automaton {
-        states: header.states,
-        start: header.start,
-        successors: &successors[0..256 * states],
-        classes: &classes[0..states],
-    };
-    Plan::of(automaton, &mut work)
+    Plan::of(small.automaton(), &mut work)
 }
 
 // The head line of a plan: how many bits a code has.

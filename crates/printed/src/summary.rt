@@ -1,7 +1,7 @@
 ghost use Rattle.std.specs.Prelude.{◌≡◌, IfOk, Some, string_bytes};
 ghost use Rattle.printed.specs.Lines.{marking, summarized, summary_text, line_of};
 
-use crate::reading::{MOST_STATES, MOST_SUCCESSORS, read_small};
+use crate::reading::SmallAutomaton;
 use crate::refused::refusal_line;
 use std::alloc::{AllocError, Global};
 use std::fmt;
@@ -52,13 +52,12 @@ impl fmt::Display for Summary {
 pub fn summarize(file: &[u8]) -> Result<Summary, Refusal>
     ensures { result ≡ summarized file.now }
 {
-    let mut successors = [StateNo(0); MOST_SUCCESSORS];
-    let mut classes = [0; MOST_STATES];
-    let header = read_small(file, &mut successors, &mut classes)?;
+    let small = SmallAutomaton::read(file)?;
+    let automaton = small.automaton();
     Ok(Summary {
-        states: header.states,
-        start: header.start,
-        marking: count_marking(&classes[0..header.states as usize]),
+        states: automaton.states,
+        start: automaton.start,
+        marking: count_marking(automaton.classes),
     })
 }
 

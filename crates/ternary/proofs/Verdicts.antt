@@ -15,7 +15,7 @@ refused_some None y e = absurd (let z : ◌≡◌ {A = ℕ} 0 1 = cc in omega ar
 refused_some (Some at) y e = refl
 
 -- the exit of a `?` hands a refusal on
-handed_on : {T : Type 0} (r : Result T Refusal) (y : Refusal) → IsErrAnd r (λ e. e ≡ y) → r ≡ Err y
+pub handed_on : {T : Type 0} (r : Result T Refusal) (y : Refusal) → IsErrAnd r (λ e. e ≡ y) → r ≡ Err y
 handed_on r y by = let p = err_from_is_err_and r by in p.1 ∙ ap Err p.2
 
 -- a loop of checks that one of them ends: the whole fault is that check's fault

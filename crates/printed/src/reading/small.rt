@@ -1,0 +1,47 @@
+// Reading such an automaton, and lending it to calls.
+ghost use Rattle.std.specs.Prelude.{◌≡◌};
+ghost use Rattle.automaton.specs.Limits.{handed};
+ghost use Rattle.printed.specs.Lines.{small_answer};
+ghost use Rattle.printed.specs.Small.{held, ReadSmall};
+
+use crate::reading::{MOST_STATES, MOST_SUCCESSORS, SmallAutomaton};
+use automaton::file::read;
+use automaton::words::Automaton;
+use ternary::refusal::Refusal;
+use ternary::words::StateNo;
+
+// The longest file that is printed.
+const LONGEST_FILE: usize = 65_536;
+
+impl SmallAutomaton {
+    // The automaton in a file, or why it is refused: first for its length, then for a fault, then for its number of
+    // states.
+    pub(crate) fn read(file: &[u8]) -> Result<SmallAutomaton, Refusal>
+        ensures { ReadSmall file.now (small_answer file.now) result }
+    {
+        if file.len() > LONGEST_FILE {
+            return Err(Refusal::OutputTooShort);
+        }
+        let mut successors = [StateNo(0); MOST_SUCCESSORS];
+        let mut classes = [0; MOST_STATES];
+        let header = read(file, &mut successors, &mut classes)?;
+        Ok(SmallAutomaton {
+            header,
+            successors,
+            classes,
+        })
+    }
+
+    // The automaton, as it is handed to calls.
+    pub(crate) fn automaton(&self) -> Automaton<'_>
+        ensures { handed result ≡ held self.now }
+    {
+        let states = self.header.states as usize;
+        Automaton {
+            states: self.header.states,
+            start: self.header.start,
+            successors: &self.successors[0..256 * states],
+            classes: &self.classes[0..states],
+        }
+    }
+}
