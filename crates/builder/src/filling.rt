@@ -1,40 +1,25 @@
 // Gathering the entries of a table: deeper states first, and states of equal depth by lower number.
 ghost use Rattle.std.specs.Prelude.{◌<◌, map};
-ghost use Rattle.std.specs.List.{AllByRecursion};
 ghost use Rattle.automaton.specs.Sound.{meant};
 ghost use Rattle.builder.specs.Gathering.{Gathers, lists_of, level_over};
 ghost use Rattle.builder.specs.Lists.{entry_for, table_over};
 
 use crate::gathered::{Gathered, add};
 use crate::planned::Planned;
-use prefix::word::PrefixWord;
 use ternary::refusal::Refusal;
 use ternary::words::StateNo;
 
 impl Planned<'_> {
-    // Gathers the entries of a state's words.
-    fn gather_words(
-        &self,
-        state: StateNo,
-        words: &[PrefixWord<StateNo>],
-        gathered: &mut Gathered,
-    ) -> Result<(), Refusal>
-        requires { (state.0 < (meant self.now.automaton).states) × AllByRecursion (λ w. w.next.0 < (meant self.now.automaton).states) words.now }
-        ensures { Gathers gathered.old.items gathered.new.items (map (entry_for (meant self.now.automaton) state.0) words.now) result }
-    {
-        for word in words {
-            add(gathered, self.entry_of(state, *word))?;
-        }
-        Ok(())
-    }
-
     // Gathers the entries of a state.
     fn gather_state(&self, state: StateNo, gathered: &mut Gathered) -> Result<(), Refusal>
         requires { state.0 < (meant self.now.automaton).states }
         ensures { Gathers gathered.old.items gathered.new.items (map (entry_for (meant self.now.automaton) state.0) (lists_of (meant self.now.automaton) state.0)) result }
     {
-        let words = self.list_of(state);
-        self.gather_words(state, words.as_slice(), gathered)
+        let list = self.list_of(state);
+        for word in list.as_slice() {
+            add(gathered, self.entry_of(state, *word))?;
+        }
+        Ok(())
     }
 
     // Gathers the entries of the states at a depth, lower numbers first.

@@ -1,17 +1,9 @@
-use Rattle.std.proofs.Common.{false, eqb, Option, sym, ap, ◌∙◌}
+use Rattle.std.proofs.Common.{false, Option, sym, ap, ◌∙◌}
 use Rattle.std.proofs.lemmas.List.{get_or-replicate}
 use Rattle.automaton.specs.Sound.{meant}
 use Rattle.builder.specs.Lists.{shared_with}
 use Rattle.builder.proofs.Standing.{number_of, parent_is}
 use Rattle.builder.proofs.planned.Planned.deferrable_of.Goals as goal
-
-pub returns-in-Some : goal.returns-in-Some
-returns-in-Some c byte h =
-    let a = meant c.args.self.now.automaton in
-    let s = c.args.state.0 in
-    c.shared_bytes.ensures byte h
-    ∙ ((λ i. eqb (c.row_of.ensures byte h i).0 (c.row_of-in-Some.ensures byte h i).0)
-    ∙ ap (λ (o : Option _). shared_with a o s byte) (ap number_of (sym c.in-Some.is) ∙ parent_is a s c.place_of.result (c.place_of.ensures c.requires)))
 
 pub returns-in-None : goal.returns-in-None
 returns-in-None c byte h =
