@@ -4,7 +4,6 @@ ghost use Rattle.automaton.specs.Limits.{handed, dfa};
 ghost use Rattle.table.specs.Acceptance.{Acceptable};
 ghost use Rattle.builder.specs.Build.{BuildAnswer, RoomSuffices, ShortestImage, SoleAnswer};
 
-use crate::gathered::Gathered;
 use crate::planned::Planned;
 use automaton::words::Automaton;
 use image::writer::pack;
@@ -20,14 +19,13 @@ pub fn build(automaton: Automaton<'_>, work: &mut [u32], out: &mut [u8]) -> Resu
     ensures shortest { IfOk result (λ size. ShortestImage (dfa (handed automaton.entry)) (take size out.new)) }
 {
     let planned = Planned::of(automaton, work)?;
-    let mut gathered = Gathered::new();
-    planned.gather(&mut gathered)?;
+    let entries = planned.entries()?;
     let codes = planned.codes();
     pack(
         planned.plan.width(),
         planned.automaton.start(),
         codes.as_slice(),
-        gathered.as_slice(),
+        entries.as_slice(),
         out,
     )
 }

@@ -1,5 +1,6 @@
 // Gathering the entries of a table: deeper states first, and states of equal depth by lower number.
-ghost use Rattle.std.specs.Prelude.{◌<◌, map};
+ghost use Rattle.std.specs.Prelude.{◌≡◌, ◌<◌, map, length, MatchResult};
+ghost use Rattle.ternary.specs.declared.refusal.Refusal.TheVariants.{TooManyEntries};
 ghost use Rattle.automaton.specs.Sound.{meant};
 ghost use Rattle.builder.specs.Gathering.{Gathers, lists_of, level_over};
 ghost use Rattle.builder.specs.Lists.{entry_for, table_over};
@@ -35,14 +36,15 @@ impl Planned<'_> {
         Ok(())
     }
 
-    // Gathers the entries of all states, deeper ones first.
-    pub(crate) fn gather(&self, gathered: &mut Gathered) -> Result<(), Refusal>
-        ensures { Gathers gathered.old.items gathered.new.items (table_over (meant self.now.automaton) (lists_of (meant self.now.automaton))) result }
+    // The entries of all states, deeper ones first.
+    pub(crate) fn entries(&self) -> Result<Gathered, Refusal>
+        ensures { MatchResult result (λ gathered. gathered.items ≡ table_over (meant self.now.automaton) (lists_of (meant self.now.automaton))) (λ e. (e ≡ TooManyEntries) × (4096 < length (table_over (meant self.now.automaton) (lists_of (meant self.now.automaton))))) }
     {
         let height = self.height();
+        let mut gathered = Gathered::new();
         for depth in (0..height).rev() {
-            self.gather_level(depth, gathered)?;
+            self.gather_level(depth, &mut gathered)?;
         }
-        Ok(())
+        Ok(gathered)
     }
 }

@@ -1,7 +1,6 @@
-use Rattle.std.proofs.Common.{◌≡◌, ℕ, ◌*◌, ◌+◌, ◌≤◌, List, ◌++◌, map, length, take, IfOk, None, Result, sym, ap, ◌∙◌, subst, arith}
+use Rattle.std.proofs.Common.{◌≡◌, ℕ, ◌*◌, ◌+◌, ◌≤◌, List, map, length, take, IfOk, None, Result, sym, ap, ◌∙◌, subst, arith}
 use Rattle.std.proofs.lemmas.Result.{IfOk-from_err}
 use Rattle.std.specs.List.{range_with_len}
-use Rattle.ternary.specs.declared.entry.Entry.{Entry}
 use Rattle.ternary.specs.declared.refusal.Refusal.{Refusal}
 use Rattle.automaton.specs.declared.words.Automaton.{Automaton}
 use Rattle.automaton.specs.Limits.{dfa, handed}
@@ -35,22 +34,22 @@ returns-in_err-planned c =
 same : (s a : Automaton) → s ≡ a → (work work' out out' : List ℕ) (r : Result ℕ Refusal) → BuildAnswer (handed s) work work' out out' r → BuildAnswer (handed a) work work' out out' r
 same s a e work work' out out' r answer = subst (λ x. BuildAnswer (handed x) work work' out out' r) e answer
 
-pub returns-in_err-gather : goal.returns-in_err-gather
-returns-in_err-gather c =
+pub returns-in_err-entries : goal.returns-in_err-entries
+returns-in_err-entries c =
     let a = handed c.args.automaton in
     let p = c.in_ok-planned.planned in
     let told = c.in_ok-planned.ensures in
     let s = handed p.automaton.automaton in
     let enough = subst (λ (x : Automaton). (handed x).states * (handed x).states + 8192 ≤ length c.args.work.now) (sym told.0) told.1 in
-    let r = c.from_residual-in_err-gather.result in
+    let r = c.from_residual-in_err-entries.result in
     let answer = same p.automaton.automaton c.args.automaton told.0 c.args.work.now c.of.new.work c.args.out.now c.args.out.now r
-    (gather_declined s c.args.work.now c.of.new.work c.args.out.now r _ c.new-gathered.result.items c.gather.new.gathered.items c.from_residual-in_err-gather.ensures.1 p.automaton.within enough c.new-gathered.ensures c.in_err-gather.ensures) in
+    (gather_declined s c.args.work.now c.of.new.work c.args.out.now r _ c.from_residual-in_err-entries.ensures.1 p.automaton.within enough c.in_err-entries.ensures) in
     record {
       answer = answer;
       only = sole_answer a c.args.work.now c.of.new.work c.args.out.now c.args.out.now r answer;
       suffices = room_suffices a c.args.work.now c.of.new.work c.args.out.now c.args.out.now r answer;
-      accepted = IfOk-from_err r _ c.from_residual-in_err-gather.ensures.0;
-      shortest = IfOk-from_err r _ c.from_residual-in_err-gather.ensures.0;
+      accepted = IfOk-from_err r _ c.from_residual-in_err-entries.ensures.0;
+      shortest = IfOk-from_err r _ c.from_residual-in_err-entries.ensures.0;
     }
 
 pub returns : goal.returns
@@ -61,8 +60,7 @@ returns c =
     let s = handed p.automaton.automaton in
     let enough = subst (λ (x : Automaton). (handed x).states * (handed x).states + 8192 ≤ length c.args.work.now) (sym told.0) told.1 in
     let lists = lists_of (dfa s) in
-    let table : c.gather.new.gathered.items ≡ table_over (dfa s) lists = c.in_ok-gather.ensures ∙ ap (λ (es : List Entry). es ++ table_over (dfa s) lists) c.new-gathered.ensures in
-    let entries : c.as_slice-2.result.now ≡ table_over (dfa s) lists = c.as_slice-2.ensures.value ∙ table in
+    let entries : c.as_slice-2.result.now ≡ table_over (dfa s) lists = c.as_slice-2.ensures.value ∙ c.in_ok-entries.ensures in
     let few : length (table_over (dfa s) lists) ≤ 4096 = omega (arith, ap length entries, c.as_slice-2.ensures.fits) in
     let codes : c.as_slice.result.now ≡ map (code_of (dfa s)) (range_with_len 0 s.states) = c.as_slice.ensures.value ∙ c.codes-codes.ensures in
     let wide : c.width.result ≡ (forest_of (dfa s)).width = c.width.ensures ∙ p.planned.1.wide in
