@@ -6,8 +6,7 @@ use Rattle.builder.specs.Lists.{code_of}
 use Rattle.builder.proofs.planned.Planned.codes.Goals as goal
 
 pub push-requires : goal.push-requires
-push-requires c =
-    omega (arith, ap length c.loop-s.invariant, length-map-range_with_len (code_of (meant c.args.self.now.automaton)) 0 c.loop-s.s, c.loop-s-test.true, c.states-s-end.ensures, c.args.self.now.automaton.within.few)
+push-requires c = grind (arith, ap length c.loop-s.invariant, length-map-range_with_len, c.args.self.now.automaton.within)
 
 pub loop-s-preserved : goal.loop-s-preserved
 loop-s-preserved c =

@@ -1,9 +1,8 @@
-use Rattle.std.proofs.Common.{◌≡◌, ℕ, ◌-◌, List, ◌++◌, map, sym, ap, ◌∙◌, arith}
+use Rattle.std.proofs.Common.{◌≡◌, ℕ, ◌-◌, ◌++◌, map, sym, ap, ◌∙◌, arith}
+use Rattle.std.proofs.lemmas.Grind.{common_steps}
 use Rattle.std.proofs.lemmas.List.{append-nil}
-use Rattle.ternary.specs.declared.entry.Entry.{Entry}
 use Rattle.automaton.specs.Sound.{meant}
 use Rattle.forest.specs.Deferment.{forest_of}
-use Rattle.forest.specs.Table.{height}
 use Rattle.forest.proofs.Deferred.{forest_stands}
 use Rattle.builder.specs.Gathering.{lists_of, level_over}
 use Rattle.builder.specs.Lists.{byte_word, table_over}
@@ -12,10 +11,7 @@ use Rattle.builder.proofs.Collecting.{lower, too_long}
 use Rattle.builder.proofs.planned.Planned.entries.Goals as goal
 
 pub loop-depth-init : goal.loop-depth-init
-loop-depth-init c =
-    let a = meant c.args.self.now.automaton in
-    ap (λ (es : List Entry). es ++ levels_over a (lists_of a) c.height-height.result) c.new-gathered.ensures
-    ∙ ap (levels_over a (lists_of a)) (c.height-height.ensures ∙ ap (height (forest_of a)) (sym (forest_stands a).states))
+loop-depth-init c = grind (arith, common_steps, (forest_stands (meant c.args.self.now.automaton)).states)
 
 pub loop-depth-preserved : goal.loop-depth-preserved
 loop-depth-preserved c =
