@@ -14,6 +14,9 @@ use prefix::word::PrefixWord;
 use ternary::entry::Entry;
 use ternary::words::{StateCode, StateNo};
 
+// The most states of an automaton.
+const MOST_STATES: usize = 512;
+
 impl Planned<'_> {
     // The place of a state, and no parent and zeros for a number that no state has.
     pub(crate) fn place_of(&self, state: StateNo) -> Placement
@@ -35,7 +38,7 @@ impl Planned<'_> {
     }
 
     // The codes of the states, in state order.
-    pub(crate) fn codes(&self) -> ArrayVec<StateCode, 512>
+    pub(crate) fn codes(&self) -> ArrayVec<StateCode, MOST_STATES>
         ensures { result.items ≡ map (code_of (meant self.now.automaton)) (range_with_len 0 (meant self.now.automaton).states) }
     {
         let mut codes = ArrayVec::new();
