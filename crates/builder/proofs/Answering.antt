@@ -1,9 +1,9 @@
 -- What building answers, from what its steps answer. Assumes nothing.
-use Rattle.std.proofs.Common.{◌≡◌, ℕ, ◌<◌, ◌≤◌, cond, leb, List, [], length, take, is_ok, IsErrAnd, IfOk, None, Ok, Err, Option, Result, sym, refl, ap, ◌∙◌, subst, inl, inr, arith}
+use Rattle.std.proofs.Common.{◌≡◌, ℕ, ◌<◌, ◌≤◌, cond, leb, List, [], length, take, is_ok, IsErrAnd, IfOk, None, Ok, Err, Option, Result, sym, refl, ap, ◌∙◌, subst, inl, inr}
 use Rattle.std.proofs.lemmas.Result.{err_from_is_err_and, IfOk-weaker}
 use Rattle.std.proofs.lemmas.Bool.{cases_lt, cond-false, lt-leb}
 use Rattle.ternary.specs.declared.refusal.Refusal.{Refusal}
-use Rattle.ternary.specs.declared.refusal.Refusal.TheVariants.{OutputTooShort}
+use Rattle.ternary.specs.declared.refusal.Refusal.TheVariants.{OutputTooShort, TooManyEntries}
 use Rattle.ternary.specs.Refusals.{KnownBy, number, values, refuse_or}
 use Rattle.fields.specs.Fields.{written}
 use Rattle.automaton.specs.Limits.{Handed, Within, dfa}
@@ -13,9 +13,8 @@ use Rattle.image.specs.Rules.{fault, parts_fault}
 use Rattle.image.proofs.Packs.{packed_answer, packed_after}
 use Rattle.forest.specs.Plan.{PlanAnswer}
 use Rattle.table.specs.Acceptance.{Acceptable}
-use Rattle.builder.specs.declared.gathered.Gathered.{Gathered}
 use Rattle.builder.specs.Build.{Declines, beyond, little, many, long, BuildAnswer, ShortestImage, work_needed}
-use Rattle.builder.specs.Gathering.{held, Gathers, lists_of}
+use Rattle.builder.specs.Gathering.{lists_of}
 use Rattle.builder.specs.Lists.{table_over, parts_over}
 use Rattle.builder.proofs.Canonical.{lists_shortest, one_size, too_many}
 use Rattle.builder.proofs.Ruling.{keeps_rules, acceptable, shortest_image}
@@ -40,11 +39,11 @@ plan_declined a work after out r why by told =
     )
 
 -- gathering declines
-pub gather_declined : (a : Handed) (work after out : List ℕ) (r : Result ℕ Refusal) (why : Refusal) (before later : Gathered) → IsErrAnd r (λ e. e ≡ why) →
-    Within a → work_needed a ≤ length work → held before ≡ [] → Gathers before later (table_over (dfa a) (lists_of (dfa a))) (Err why) → BuildAnswer a work after out out r
-gather_declined a work after out r why before later by within enough none refused =
+pub gather_declined : (a : Handed) (work after out : List ℕ) (r : Result ℕ Refusal) (why : Refusal) → IsErrAnd r (λ e. e ≡ why) →
+    Within a → work_needed a ≤ length work → (why ≡ TooManyEntries) × (4096 < length (table_over (dfa a) (lists_of (dfa a)))) → BuildAnswer a work after out out r
+gather_declined a work after out r why by within enough refused =
     subst (BuildAnswer a work after out out) (sym (handed_on r why by ∙ ap Err refused.0))
-    (refl, many within enough (too_many (dfa a) (lists_of (dfa a)) (lists_shortest (dfa a)) (omega (arith, refused.1, ap length none))))
+    (refl, many within enough (too_many (dfa a) (lists_of (dfa a)) (lists_shortest (dfa a)) refused.1))
 
 -- ---- packing
 

@@ -4,11 +4,8 @@ ghost use Rattle.automaton.specs.Limits.{handed, dfa};
 ghost use Rattle.table.specs.Acceptance.{Acceptable};
 ghost use Rattle.builder.specs.Build.{BuildAnswer, RoomSuffices, ShortestImage, SoleAnswer};
 
-use crate::filling::gather;
-use crate::gathered::Gathered;
-use crate::places::codes_of;
+use crate::planned::Planned;
 use automaton::words::Automaton;
-use forest::plan::Plan;
 use image::writer::pack;
 use ternary::refusal::Refusal;
 
@@ -21,16 +18,14 @@ pub fn build(automaton: Automaton<'_>, work: &mut [u32], out: &mut [u8]) -> Resu
     ensures accepted { IfOk result (λ size. Acceptable (handed automaton.entry) (take size out.new)) }
     ensures shortest { IfOk result (λ size. ShortestImage (dfa (handed automaton.entry)) (take size out.new)) }
 {
-    let plan = Plan::of(automaton, work)?;
-    let mut gathered = Gathered::new();
-    gather(automaton, &plan, &mut gathered)?;
-    let codes = codes_of(automaton, &plan);
-    let states = automaton.states as usize;
+    let planned = Planned::of(automaton, work)?;
+    let entries = planned.entries()?;
+    let codes = planned.codes();
     pack(
-        plan.width(),
-        automaton.start,
-        &codes[0..states],
-        gathered.entries(),
+        planned.plan.width(),
+        planned.automaton.start(),
+        codes.as_slice(),
+        entries.as_slice(),
         out,
     )
 }

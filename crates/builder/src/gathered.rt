@@ -1,15 +1,22 @@
 // The entries of a table while they are gathered.
-ghost use Rattle.std.specs.Prelude.{◌≡◌, ◌≤◌, length};
+ghost use Rattle.std.specs.Prelude.{[], ◌∷◌};
+ghost use Rattle.builder.specs.Gathering.{Gathers};
 
+use arrayvec::ArrayVec;
 use ternary::entry::Entry;
+use ternary::refusal::Refusal;
 
-mod pushing;
+// The most entries that a table may have.
+const MOST_ENTRIES: usize = 4096;
 
-// Up to 4,096 entries, in the first `count` places.
-#[derive(Drop)]
-pub(crate) struct Gathered {
-    places: [Entry; 4096],
-    count: usize,
-    ghost long: { length places ≡ 4096 },
-    ghost few: { count ≤ 4096 },
+// The entries so far.
+pub(crate) type Gathered = ArrayVec<Entry, MOST_ENTRIES>;
+
+// Takes one more entry, or refuses it if there are 4,096 already.
+pub(crate) fn add(gathered: &mut Gathered, entry: Entry) -> Result<(), Refusal>
+    ensures { Gathers gathered.old.items gathered.new.items (entry ∷ []) result }
+{
+    gathered
+        .try_push(entry)
+        .map_err(|_| Refusal::TooManyEntries)
 }

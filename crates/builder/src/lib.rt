@@ -5,4 +5,5 @@ pub mod build;
 mod filling;
 mod gathered;
 mod places;
+mod planned;
 mod rows;
