@@ -1,25 +1,24 @@
 // Who defers to whom, by the rule.
 ghost use Rattle.std.specs.Prelude.{◌≡◌, ℕ, ◌*◌, ◌≤◌, length};
-ghost use Rattle.automaton.specs.Limits.{handed, Within, dfa};
+ghost use Rattle.automaton.specs.Sound.{meant};
 ghost use Rattle.automaton.specs.Runs.{Dfa};
 ghost use Rattle.forest.specs.Laws.{Found, Loose};
 
 use crate::joining::Grove;
 use crate::placing::places;
 use crate::sharing::ByteCounts;
-use automaton::words::Automaton;
+use automaton::sound::SoundAutomaton;
 
 // Finds the depth and the parent of each state.
 pub(crate) fn defer(
-    automaton: Automaton<'_>,
+    automaton: SoundAutomaton<'_>,
     counts: &mut [u32],
     depths: &mut [u16],
     parents: &mut [Option<u16>],
 )
-    requires within { Within (handed automaton) }
-    requires room { automaton.states * automaton.states ≤ length counts.old }
-    requires sizes { (length depths.old ≡ automaton.states) × (length parents.old ≡ automaton.states) }
-    ensures { Found (dfa (handed automaton.entry)) parents.new depths.new }
+    requires room { (meant automaton).states * (meant automaton).states ≤ length counts.old }
+    requires sizes { (length depths.old ≡ (meant automaton).states) × (length parents.old ≡ (meant automaton).states) }
+    ensures { Found (meant automaton.entry) parents.new depths.new }
 {
     let counts = ByteCounts::of(automaton, counts);
     let grove = Grove::of(&counts);

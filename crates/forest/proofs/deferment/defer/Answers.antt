@@ -1,5 +1,5 @@
 use Rattle.std.proofs.Common.{◌≡◌, ℕ, List, get_or, Some, None, Option, option_map, ap, ◌∙◌, arith, rules}
-use Rattle.automaton.specs.Limits.{handed, dfa}
+use Rattle.automaton.specs.Sound.{meant}
 use Rattle.ternary.specs.declared.words.StateNo.{StateNo}
 use Rattle.forest.specs.declared.placing.Place.{Place}
 use Rattle.forest.specs.Deferment.{trees_of, depth_of, parent_of}
@@ -10,7 +10,7 @@ use Rattle.forest.proofs.deferment.defer.Goals.{in-Some, in_default}
 
 pub loop-s-preserved : goal.loop-s-preserved
 loop-s-preserved c k h =
-    let a = dfa (handed c.args.automaton) in
+    let a = meant c.args.automaton in
     let f = trees_of a in
     let s = c.loop-s.s in
     let here : get_or c.places-found.result s None ≡ Some (place_of a f s) = (rw c.of-counts.ensures at c.places-found.ensures) s (omega arith) in
