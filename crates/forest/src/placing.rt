@@ -4,14 +4,16 @@ ghost use Rattle.automaton.specs.Runs.{Dfa};
 ghost use Rattle.automaton.specs.Sound.{meant};
 ghost use Rattle.forest.specs.Deferment.{trees_of};
 ghost use Rattle.forest.specs.Joining.{trees_in};
-ghost use Rattle.forest.specs.Placing.{root_place, place_of, visited, Placed, better_in, beaten_in};
+ghost use Rattle.forest.specs.Placing.{root_place, visited, Placed, AllInPlace, better_in, beaten_in};
 
+use crate::codes::each_state;
 use crate::joining::Grove;
 use crate::sharing::ByteCounts;
+use arrayvec::ArrayVec;
 use ternary::words::StateNo;
 
 // Where a state stands: how many joins lead to its root, and the state that it defers to, unless it is a root.
-#[derive(Clone, Copy)]
+#[derive(Clone, Copy, Default)]
 pub(crate) struct Place {
     pub(crate) depth: u16,
     pub(crate) parent: Option<StateNo>,
@@ -79,15 +81,14 @@ fn roots(grove: &Grove, counts: &ByteCounts<'_>) -> [Option<Place>; 512]
     places
 }
 
-// Finds the place of every state of an automaton in its trees.
-pub(crate) fn places(grove: &Grove, counts: &ByteCounts<'_>) -> [Option<Place>; 512]
+// The place of each state of an automaton in its trees.
+pub(crate) fn places(grove: &Grove, counts: &ByteCounts<'_>) -> ArrayVec<Place, 512>
     requires grown { trees_in grove.now ≡ trees_of (meant counts.now.automaton) }
-    ensures { let a = meant counts.now.automaton in
-        (s : ℕ) → s < a.states → slice_index_or result s None ≡ Some (place_of a (trees_of a) s) }
+    ensures { AllInPlace (meant counts.now.automaton) result.items }
 {
     let mut places = roots(grove, counts);
     for r in 0..counts.states() {
         place_round(grove, r, &mut places);
     }
-    places
+    each_state(counts.states() as usize, |s| places[s].unwrap())
 }

@@ -25,32 +25,18 @@ impl Plan {
         if work.len() < states * states + 8192 {
             return Err(Refusal::WorkTooShort);
         }
-        let mut parents = [None; 512];
-        let mut depths = [0; 512];
-        Ok(planned(
-            automaton,
-            work,
-            &mut parents[0..states],
-            &mut depths[0..states],
-        ))
+        Ok(planned(automaton, work))
     }
 }
 
-// The plan of an automaton, by way of lent arrays with one place a state. Where codes would pass 16 bits, nothing is
-// joined.
-fn planned(
-    automaton: SoundAutomaton<'_>,
-    counts: &mut [u32],
-    parents: &mut [Option<u16>],
-    depths: &mut [u16],
-) -> Plan
+// The plan of an automaton. Where codes would pass 16 bits, nothing is joined.
+fn planned(automaton: SoundAutomaton<'_>, counts: &mut [u32]) -> Plan
     requires room { (meant automaton).states * (meant automaton).states ≤ length counts.old }
-    requires sizes { (length parents.old ≡ (meant automaton).states) × (length depths.old ≡ (meant automaton).states) }
     ensures { PlanOf (meant automaton.entry) result }
 {
     let states = automaton.states();
-    defer(automaton, counts, depths, parents);
-    let joined = Deferment { parents, depths };
+    let places = defer(automaton, counts);
+    let joined = Deferment { places: &places };
     joined.plan().unwrap_or_else(|| flat(states))
 }
 
