@@ -1,8 +1,12 @@
 -- Parents and depths that agree below n give the same forest there. Assumes nothing.
-use Rattle.std.proofs.Common.{◌≡◌, ℕ, zero, suc, ◌+◌, ◌-◌, ◌*◌, ◌^◌, ◌<◌, ◌≤◌, cond, List, Some, None, Option, sym, refl, ap, ◌∙◌, subst, ap₂, inl, inr, arith}
+use Rattle.std.proofs.Common.{◌≡◌, ℕ, zero, suc, ◌+◌, ◌-◌, ◌*◌, ◌^◌, ◌<◌, ◌≤◌, cond, List, length, Some, None, Option, sym, refl, ap, ◌∙◌, subst, ap₂, inl, inr, arith}
 use Rattle.forest.specs.Forest.{code, mask}
 use Rattle.forest.specs.Codes.{Parents, same, deferring, bits_for, child_bits, root_bits, number_of, prefix_of, len_of, span_of, width_of, parents_in, depths_in, numbered, Rooted}
-use Rattle.forest.specs.Deferment.{trees_of, depth_of, parent_of}
+use Rattle.forest.specs.Deferment.{trees_of, depth_of, parent_of, joined_forest}
+use Rattle.automaton.specs.Runs.{Dfa}
+use Rattle.forest.specs.declared.placing.Place.{Place}
+use Rattle.forest.specs.Plan.{state_named}
+use Rattle.forest.specs.Placing.{named, parent_at, depth_at, forest_at, AllInPlace}
 use Rattle.forest.specs.Laws.{Holding, Same, ArraysStand}
 use Rattle.forest.proofs.Counts.{count_same_below, most_same_below}
 use Rattle.forest.proofs.Shadow.{cases_parent}
@@ -57,48 +61,61 @@ module _ (n : ℕ) (old new : Parents) (agree : (s : ℕ) → s < n → old s �
       (most_same_below (λ t. cond (same (old t) None) (span_of n n old t) 0) (λ t. cond (same (new t) None) (span_of n n new t) 0) n
       (λ t ht. ap₂ (λ (x : Option ℕ) (y : ℕ). cond (same x None) y 0) (agree t ht) (span_same n t)))
 
--- arrays that hold the parents and the depths of a rooted forest
-module _ (n : ℕ) (parent : Parents) (depth : ℕ → ℕ) (r : Rooted n parent depth) (parents : List (Option ℕ)) (depths : List ℕ) (found : Holding n parent depth parents depths) where
-  agree_in : (s : ℕ) → s < n → parent s ≡ parents_in parents s
-  agree_in s hs = sym (found.parent_at s hs)
+-- parents and depths that agree with those of a rooted forest
+module _ (n : ℕ) (parent : Parents) (depth : ℕ → ℕ) (r : Rooted n parent depth) (q : Parents) (e : ℕ → ℕ)
+    (q_at : (s : ℕ) → s < n → q s ≡ parent s) (e_at : (s : ℕ) → s < n → e s ≡ depth s) where
+  agree_in : (s : ℕ) → s < n → parent s ≡ q s
+  agree_in s hs = sym (q_at s hs)
 
-  rooted_in : Rooted n (parents_in parents) (depths_in depths)
+  rooted_in : Rooted n q e
   rooted_in = record {
-    roots = λ s hs e. found.depth_at s hs ∙ r.roots s hs (agree_in s hs ∙ e);
-    inside = λ s p hs e. r.inside s p hs (agree_in s hs ∙ e);
-    falls = λ s p hs e.
-        let k = agree_in s hs ∙ e in
-        found.depth_at s hs ∙ r.falls s p hs k ∙ ap suc (sym (found.depth_at p (r.inside s p hs k)));
-    shallow = λ s hs. omega (arith, found.depth_at s hs, r.shallow s hs);
+    roots = λ s hs z. e_at s hs ∙ r.roots s hs (agree_in s hs ∙ z);
+    inside = λ s p hs z. r.inside s p hs (agree_in s hs ∙ z);
+    falls = λ s p hs z.
+        let k = agree_in s hs ∙ z in
+        e_at s hs ∙ r.falls s p hs k ∙ ap suc (sym (e_at p (r.inside s p hs k)));
+    shallow = λ s hs. omega (arith, e_at s hs, r.shallow s hs);
   }
 
-  width_in : width_of n (parents_in parents) ≡ width_of n parent
-  width_in = sym (width_same n parent (parents_in parents) agree_in r.inside)
+  width_in : width_of n q ≡ width_of n parent
+  width_in = sym (width_same n parent q agree_in r.inside)
 
-  len_in : (s : ℕ) → s < n → len_of (suc (depths_in depths s)) n (parents_in parents) s ≡ len_of (suc (depth s)) n parent s
-  len_in s hs =
-      ap (λ (d : ℕ). len_of (suc d) n (parents_in parents) s) (found.depth_at s hs)
-      ∙ sym (len_same n parent (parents_in parents) agree_in r.inside (suc (depth s)) s hs)
+  len_in : (s : ℕ) → s < n → len_of (suc (e s)) n q s ≡ len_of (suc (depth s)) n parent s
+  len_in s hs = ap (λ (d : ℕ). len_of (suc d) n q s) (e_at s hs) ∙ sym (len_same n parent q agree_in r.inside (suc (depth s)) s hs)
 
-  prefix_in : (s : ℕ) → s < n → prefix_of (suc (depths_in depths s)) n (parents_in parents) s ≡ prefix_of (suc (depth s)) n parent s
-  prefix_in s hs =
-      ap (λ (d : ℕ). prefix_of (suc d) n (parents_in parents) s) (found.depth_at s hs)
-      ∙ sym (prefix_same n parent (parents_in parents) agree_in r.inside (suc (depth s)) s hs)
+  prefix_in : (s : ℕ) → s < n → prefix_of (suc (e s)) n q s ≡ prefix_of (suc (depth s)) n parent s
+  prefix_in s hs = ap (λ (d : ℕ). prefix_of (suc d) n q s) (e_at s hs) ∙ sym (prefix_same n parent q agree_in r.inside (suc (depth s)) s hs)
 
-  pub same_in : Same (numbered n parent depth) parents depths
-  same_in = record {
-    described = λ h. record {
-      size = omega (arith, found.size);
-      rooted = subst (λ (k : ℕ). Rooted k (parents_in parents) (depths_in depths)) (sym found.size) rooted_in;
-    };
-    width = ap (λ (k : ℕ). width_of k (parents_in parents)) found.size ∙ width_in;
-    codes = λ s hs.
-        ap (λ (k : ℕ). code (numbered k (parents_in parents) (depths_in depths)) s) found.size
-        ∙ ap₂ (λ (x y : ℕ). x * 2 ^ y) (prefix_in s hs) (ap₂ (λ (x y : ℕ). x - y) width_in (len_in s hs));
-    masks = λ s hs.
-        ap (λ (k : ℕ). mask (numbered k (parents_in parents) (depths_in depths)) s) found.size
-        ∙ ap₂ (λ (x y : ℕ). 2 ^ x - 2 ^ (x - y)) width_in (len_in s hs);
-  }
+  -- the same, for as many states by another count
+  module _ (m : ℕ) (size : m ≡ n) where
+    pub rooted_as : Rooted m q e
+    rooted_as = subst (λ (k : ℕ). Rooted k q e) (sym size) rooted_in
+
+    pub width_as : width_of m q ≡ width_of n parent
+    width_as = ap (λ (k : ℕ). width_of k q) size ∙ width_in
+
+    pub code_as : (s : ℕ) → s < n → code (numbered m q e) s ≡ code (numbered n parent depth) s
+    code_as s hs =
+        ap (λ (k : ℕ). code (numbered k q e) s) size
+        ∙ ap₂ (λ (x y : ℕ). x * 2 ^ y) (prefix_in s hs) (ap₂ (λ (x y : ℕ). x - y) width_in (len_in s hs))
+
+    pub mask_as : (s : ℕ) → s < n → mask (numbered m q e) s ≡ mask (numbered n parent depth) s
+    mask_as s hs =
+        ap (λ (k : ℕ). mask (numbered k q e) s) size
+        ∙ ap₂ (λ (x y : ℕ). 2 ^ x - 2 ^ (x - y)) width_in (len_in s hs)
+
+-- arrays that hold the parents and the depths of a rooted forest
+same_in : (n : ℕ) (parent : Parents) (depth : ℕ → ℕ) → Rooted n parent depth → (parents : List (Option ℕ)) (depths : List ℕ) → Holding n parent depth parents depths →
+    Same (numbered n parent depth) parents depths
+same_in n parent depth r parents depths found = record {
+  described = λ h. record {
+    size = omega (arith, found.size);
+    rooted = rooted_as n parent depth r (parents_in parents) (depths_in depths) found.parent_at found.depth_at (length parents) found.size;
+  };
+  width = width_as n parent depth r (parents_in parents) (depths_in depths) found.parent_at found.depth_at (length parents) found.size;
+  codes = code_as n parent depth r (parents_in parents) (depths_in depths) found.parent_at found.depth_at (length parents) found.size;
+  masks = mask_as n parent depth r (parents_in parents) (depths_in depths) found.parent_at found.depth_at (length parents) found.size;
+}
 
 loose_rooted : (n : ℕ) → Rooted n (λ s. None) (λ s. 0)
 loose_rooted n = record {
@@ -113,3 +130,37 @@ arrays_stand a parents depths = (
   λ found. same_in a.states (parent_of a (trees_of a)) (depth_of a (trees_of a)) (rooted a (trees_of a) (kept a)) parents depths found,
   λ found. same_in a.states (λ s. None) (λ s. 0) (loose_rooted a.states) parents depths found,
 )
+
+-- the number of a state that is named by a number
+unnamed : (o : Option ℕ) → named (state_named o) ≡ o
+unnamed None = refl
+unnamed (Some s) = refl
+
+-- places of all states of an automaton
+module _ (a : Dfa) (places : List Place) (all : AllInPlace a places) where
+  abbrev parent : Parents
+  parent = parent_of a (trees_of a)
+
+  abbrev depth : ℕ → ℕ
+  depth = depth_of a (trees_of a)
+
+  pub place_parent : (s : ℕ) → s < a.states → parent_at places s ≡ parent s
+  place_parent s hs = ap (λ (p : Place). named p.parent) (all.1 s hs) ∙ unnamed (parent s)
+
+  pub place_depth : (s : ℕ) → s < a.states → depth_at places s ≡ depth s
+  place_depth s hs = ap (λ (p : Place). p.depth) (all.1 s hs)
+
+  abbrev r : Rooted a.states parent depth
+  r = rooted a (trees_of a) (kept a)
+
+  pub places_rooted : Rooted (length places) (parent_at places) (depth_at places)
+  places_rooted = rooted_as a.states parent depth r (parent_at places) (depth_at places) place_parent place_depth (length places) all.0
+
+  pub places_width : (forest_at places).width ≡ (joined_forest a).width
+  places_width = width_as a.states parent depth r (parent_at places) (depth_at places) place_parent place_depth (length places) all.0
+
+  pub places_code : (s : ℕ) → s < a.states → code (forest_at places) s ≡ code (joined_forest a) s
+  places_code = code_as a.states parent depth r (parent_at places) (depth_at places) place_parent place_depth (length places) all.0
+
+  pub places_mask : (s : ℕ) → s < a.states → mask (forest_at places) s ≡ mask (joined_forest a) s
+  places_mask = mask_as a.states parent depth r (parent_at places) (depth_at places) place_parent place_depth (length places) all.0

@@ -1,5 +1,5 @@
 -- Rounds from the roots place every state. Assumes nothing.
-use Rattle.std.proofs.Common.{◌≡◌, ℕ, zero, suc, ◌+◌, ◌<◌, ◌≤◌, Bool, true, false, cond, not, ◌&&◌, ◌||◌, eqb, ltb, ◌⊎◌, List, [], ◌∷◌, ◌++◌, length, get_or, set, Some, None, Option, option_map, sym, refl, ap, ◌∙◌, subst, ap₂, inl, inr, arith, length-set}
+use Rattle.std.proofs.Common.{◌≡◌, ℕ, zero, suc, ◌+◌, ◌<◌, ◌≤◌, Bool, true, false, cond, not, ◌&&◌, ◌||◌, eqb, ltb, ◌⊎◌, List, [], ◌∷◌, ◌++◌, length, get_or, set, Some, None, Option, sym, refl, ap, ◌∙◌, subst, ap₂, inl, inr, arith, length-set}
 use Rattle.std.proofs.lemmas.List.{get_or-set_same, get_or-set_other}
 use Rattle.std.proofs.lemmas.Bool.{cases_eq, cases_lt, cases_Bool, and_parts, and_from, lt-ltb, or_left, or_cases, eqb-true, eq-eqb, cond-true, cond-false, true≢false}
 use Rattle.std.proofs.Math.Bool.{or_comm}
@@ -221,11 +221,6 @@ module _ (a : Dfa) (items : List (Option Join)) (holds : (u v : ℕ) → (trees_
           done w.0 w.1 g.0 s w.2 g.3
     ];
   }
-
--- the number of a state that is named by a number
-pub unnamed : (o : Option ℕ) → option_map (λ (p : StateNo). p.0) (state_named o) ≡ o
-unnamed None = refl
-unnamed (Some s) = refl
 
 -- ---- the roots
 

@@ -9,7 +9,7 @@ use Rattle.forest.specs.Counting.{count}
 use Rattle.forest.proofs.Counts.{count_yes, count_no, count_same_below}
 
 -- what is counted in a list is counted over its places
-count_places : {X : Type 0} (p : X → Bool) (xs : List X) (d : X) (n : ℕ) → n ≤ length xs → count_by p (take n xs) ≡ count (λ k. p (get_or xs k d)) n
+pub count_places : {X : Type 0} (p : X → Bool) (xs : List X) (d : X) (n : ℕ) → n ≤ length xs → count_by p (take n xs) ≡ count (λ k. p (get_or xs k d)) n
 count_places p xs d zero h = refl
 count_places p xs d (suc n) h =
     let more = ap (λ (k : ℕ). count_by p (take k xs)) (add-one n) in

@@ -1,16 +1,20 @@
 -- Sums over the states that a state defers to, and counts of the states that defer to one. Assumes nothing.
-use Rattle.std.proofs.Common.{◌≡◌, ℕ, zero, suc, ◌+◌, ◌-◌, ◌*◌, ◌^◌, ◌<◌, ◌≤◌, max, Bool, List, length, get_or, take, Some, None, Option, sym, refl, ap, ◌∙◌, inl, inr, add-one, arith}
+use Rattle.std.proofs.Common.{◌≡◌, ℕ, zero, suc, ◌+◌, ◌-◌, ◌*◌, ◌^◌, ◌<◌, ◌≤◌, max, List, length, get_or, take, Some, None, Option, sym, refl, ap, ◌∙◌, inl, inr, add-one, arith}
 use Rattle.std.specs.List.{count_by, fold}
 use Rattle.std.proofs.Math.Seq.{take-length}
-use Rattle.std.proofs.lemmas.Bool.{cases_Bool}
-use Rattle.std.proofs.lemmas.List.Sums.{count_by_more_yes, count_by_more_no, fold_more}
+use Rattle.std.proofs.lemmas.List.Sums.{fold_more}
 use Rattle.forest.specs.Counting.{most}
 use Rattle.forest.specs.Forest.{Forest, code}
 use Rattle.forest.specs.Arrays.{ForEach, part, sum_up, sum_above}
 use Rattle.forest.specs.Held.{held}
 use Rattle.forest.specs.declared.codes.Deferment.{Deferment}
-use Rattle.forest.specs.Codes.{Parents, same, deferring, child_bits, root_bits, parents_in, Rooted}
-use Rattle.forest.proofs.Counts.{count_bound, count_pass, count_fail, bits_least}
+use Rattle.forest.specs.Codes.{Parents, same, deferring, child_bits, root_bits, Rooted}
+use Rattle.ternary.specs.declared.words.StateNo.{StateNo}
+use Rattle.forest.specs.Plan.{state_named}
+use Rattle.forest.specs.declared.placing.Place.{Place}
+use Rattle.forest.specs.Placing.{named, parent_at, root_place}
+use Rattle.forest.proofs.Rows.{count_places}
+use Rattle.forest.proofs.Counts.{count_bound, bits_least}
 use Rattle.forest.proofs.Arrays.{formed}
 use Rattle.forest.proofs.Shadow.{cases_parent}
 use Rattle.forest.proofs.Numbered.{len_root, len_step}
@@ -28,16 +32,18 @@ module _ (n : ℕ) (parent : Parents) (few : n ≤ 65536) where
   pub root_bits_few : root_bits n parent ≤ 17
   root_bits_few = bits_least (deferring parent None n) 17 (omega (arith, deferring_bound parent None n))
 
+-- no state is named by none, and a state is named by its number
+pub none_named : (o : Option StateNo) → ((s : StateNo) → o ≡ Some s → ⊥) → named o ≡ None
+none_named None h = refl
+none_named (Some s) h = absurd (h s refl)
+
+pub renamed : (o : Option StateNo) → o ≡ state_named (named o)
+renamed None = refl
+renamed (Some s) = refl
+
 -- how many of the first n states have this parent, or none
-pub counted : (parents : List (Option ℕ)) (o : Option ℕ) (n : ℕ) → n ≤ length parents → count_by (λ x. same x o) (take n parents) ≡ deferring (parents_in parents) o n
-counted parents o zero h = refl
-counted parents o (suc n) h =
-    let q : Option ℕ → Bool = λ x. same x o in
-    let before = counted parents o n (omega arith) in
-    elim (cases_Bool (same (parents_in parents n) o)) [
-      | inl e ↦ ap (λ (k : ℕ). count_by q (take k parents)) (sym (add-one n)) ∙ count_by_more_yes q parents n None h e ∙ ap (λ (k : ℕ). k + 1) before ∙ sym (count_pass (λ t. same (parents_in parents t) o) n e) ∙ ap (deferring (parents_in parents) o) (add-one n)
-      | inr e ↦ ap (λ (k : ℕ). count_by q (take k parents)) (sym (add-one n)) ∙ count_by_more_no q parents n None h e ∙ before ∙ sym (count_fail (λ t. same (parents_in parents t) o) n e) ∙ ap (deferring (parents_in parents) o) (add-one n)
-    ]
+pub counted : (places : List Place) (o : Option ℕ) (n : ℕ) → n ≤ length places → count_by (λ p. same (named p.parent) o) (take n places) ≡ deferring (parent_at places) o n
+counted places o n h = count_places (λ p. same (named p.parent) o) places root_place n h
 
 -- sums of amounts over the states that a state of a deferment defers to
 none_up : (parent : Parents) (amounts : List ℕ) (h s : ℕ) → parent s ≡ None → sum_up h parent amounts s ≡ 0
@@ -52,7 +58,7 @@ module _ (d : Deferment) (amounts : List ℕ) where
   f = held d
 
   abbrev r : Rooted f.states f.parent f.depth
-  r = d.described.rooted
+  r = d.rooted
 
   pub sum_root : (s : ℕ) → f.parent s ≡ None → sum_above f amounts s ≡ 0
   sum_root s e = none_up f.parent amounts (f.depth s) s e
@@ -93,21 +99,24 @@ module _ (d : Deferment) (amounts : List ℕ) where
       )
 
 module _ (d : Deferment) where
+  size : (held d).states ≤ 65536
+  size = omega (arith, d.few)
+
   -- 17 bits for each state on the way to the root are enough for a prefix
   len_few : (h s : ℕ) → s < (held d).states → (held d).depth s ≡ h → (held d).len s ≤ 17 * suc h
   len_few zero s hs k = elim (cases_parent ((held d).parent s)) [
-    | inl e ↦ omega (arith, len_root (held d).states (held d).parent ((held d).depth s) s e, root_bits_few (held d).states (held d).parent d.described.size)
-    | inr (p, e) ↦ absurd (omega (arith, d.described.rooted.falls s p hs e))
+    | inl e ↦ omega (arith, len_root (held d).states (held d).parent ((held d).depth s) s e, root_bits_few (held d).states (held d).parent size)
+    | inr (p, e) ↦ absurd (omega (arith, d.rooted.falls s p hs e))
   ]
   len_few (suc h) s hs k = elim (cases_parent ((held d).parent s)) [
-    | inl e ↦ omega (arith, len_root (held d).states (held d).parent ((held d).depth s) s e, root_bits_few (held d).states (held d).parent d.described.size)
+    | inl e ↦ omega (arith, len_root (held d).states (held d).parent ((held d).depth s) s e, root_bits_few (held d).states (held d).parent size)
     | inr (p, e) ↦
-        let r : Rooted (held d).states (held d).parent (held d).depth = d.described.rooted in
-        omega (arith, len_step (held d).states (held d).parent (held d).depth r s p hs e, child_bits_few (held d).states (held d).parent d.described.size p, len_few h p (r.inside s p hs e) (omega (arith, r.falls s p hs e)))
+        let r : Rooted (held d).states (held d).parent (held d).depth = d.rooted in
+        omega (arith, len_step (held d).states (held d).parent (held d).depth r s p hs e, child_bits_few (held d).states (held d).parent size p, len_few h p (r.inside s p hs e) (omega (arith, r.falls s p hs e)))
   ]
 
   pub len_small : (s : ℕ) → s < (held d).states → (held d).len s < 2 ^ 32
-  len_small s hs = omega (arith, len_few ((held d).depth s) s hs refl, d.described.rooted.shallow s hs, d.few)
+  len_small s hs = omega (arith, len_few ((held d).depth s) s hs refl, d.rooted.shallow s hs, d.few)
 
 -- the largest of n numbers, as a fold finds it
 most_first : (xs : List ℕ) (n : ℕ) → n ≤ length xs → fold max 0 (take n xs) ≡ most (λ k. get_or xs k 0) n

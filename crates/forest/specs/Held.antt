@@ -1,8 +1,8 @@
 -- What a deferment holds. No public call cites this file. Assumes nothing.
 use Rattle.forest.specs.declared.codes.Deferment.{Deferment}
 use Rattle.forest.specs.Forest.{Forest}
-use Rattle.forest.specs.Codes.{forest_in}
+use Rattle.forest.specs.Placing.{forest_at}
 
--- the forest that its parents and depths describe
+-- the forest that its places describe
 abbrev pub held : Deferment → Forest
-held d = forest_in d.parents.now d.depths.now
+held d = forest_at d.places.now

@@ -4,7 +4,9 @@ use Rattle.std.specs.List.{list_any, range_with_len}
 use Rattle.automaton.specs.Runs.{Dfa}
 use Rattle.ternary.specs.declared.words.StateNo.{StateNo}
 use Rattle.forest.specs.declared.placing.Place.{Place}
-use Rattle.forest.specs.Deferment.{Trees, better, depth_of, parent_of}
+use Rattle.forest.specs.Deferment.{Trees, trees_of, better, depth_of, parent_of}
+use Rattle.forest.specs.Forest.{Forest}
+use Rattle.forest.specs.Codes.{numbered}
 use Rattle.forest.specs.Plan.{state_named}
 use Rattle.forest.specs.Labels.{label}
 
@@ -15,6 +17,27 @@ root_place = record { depth = 0; parent = None }
 -- the place of s in the trees of an automaton: its depth and its parent
 abbrev pub place_of : Dfa → Trees → ℕ → Place
 place_of a f s = record { depth = depth_of a f s; parent = state_named (parent_of a f s) }
+
+-- the number of a state, or none
+abbrev pub named : Option StateNo → Option ℕ
+named None = None
+named (Some s) = Some s.0
+
+-- the state that s defers to, by a list of places
+abbrev pub parent_at : List Place → ℕ → Option ℕ
+parent_at places s = named (slice_index_or places s root_place).parent
+
+-- the depth of s, by a list of places
+abbrev pub depth_at : List Place → ℕ → ℕ
+depth_at places s = (slice_index_or places s root_place).depth
+
+-- the forest that places describe
+abbrev pub forest_at : List Place → Forest
+forest_at places = numbered (length places) (parent_at places) (depth_at places)
+
+-- there is a place for each state of an automaton, and it is the state's own
+abbrev pub AllInPlace : Dfa → List Place → Type 0
+AllInPlace a places = (length places ≡ a.states) × ((s : ℕ) → s < a.states → slice_index_or places s root_place ≡ place_of a (trees_of a) s)
 
 -- a state stands at depth r
 abbrev pub stands : Option Place → ℕ → Bool

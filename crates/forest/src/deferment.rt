@@ -1,42 +1,20 @@
 // Who defers to whom, by the rule.
-ghost use Rattle.std.specs.Prelude.{◌≡◌, ℕ, ◌*◌, ◌≤◌, length};
-ghost use Rattle.automaton.specs.Limits.{handed, Within, dfa};
-ghost use Rattle.automaton.specs.Runs.{Dfa};
-ghost use Rattle.forest.specs.Laws.{Found, Loose};
+ghost use Rattle.std.specs.Prelude.{◌*◌, ◌≤◌, length};
+ghost use Rattle.automaton.specs.Sound.{meant};
+ghost use Rattle.forest.specs.Placing.{AllInPlace};
 
 use crate::joining::Grove;
-use crate::placing::places;
+use crate::placing::{Place, places};
 use crate::sharing::ByteCounts;
-use automaton::words::Automaton;
+use arrayvec::ArrayVec;
+use automaton::sound::SoundAutomaton;
 
-// Finds the depth and the parent of each state.
-pub(crate) fn defer(
-    automaton: Automaton<'_>,
-    counts: &mut [u32],
-    depths: &mut [u16],
-    parents: &mut [Option<u16>],
-)
-    requires within { Within (handed automaton) }
-    requires room { automaton.states * automaton.states ≤ length counts.old }
-    requires sizes { (length depths.old ≡ automaton.states) × (length parents.old ≡ automaton.states) }
-    ensures { Found (dfa (handed automaton.entry)) parents.new depths.new }
+// The place of each state of an automaton.
+pub(crate) fn defer(automaton: SoundAutomaton<'_>, counts: &mut [u32]) -> ArrayVec<Place, 512>
+    requires room { (meant automaton).states * (meant automaton).states ≤ length counts.old }
+    ensures { AllInPlace (meant automaton.entry) result.items }
 {
     let counts = ByteCounts::of(automaton, counts);
     let grove = Grove::of(&counts);
-    let found = places(&grove, &counts);
-    for s in 0..depths.len() {
-        if let Some(place) = found[s] {
-            depths[s] = place.depth;
-            parents[s] = place.parent.map(|parent| parent.0);
-        }
-    }
-}
-
-// Leaves every state a root.
-pub(crate) fn loosen(depths: &mut [u16], parents: &mut [Option<u16>])
-    requires { length parents.old ≡ length depths.old }
-    ensures { (a : Dfa) → a.states ≡ length depths.old → Loose a parents.new depths.new }
-{
-    depths.fill(0);
-    parents.fill(None);
+    places(&grove, &counts)
 }

@@ -24,7 +24,7 @@ pub(crate) struct Grove {
 
 impl Grove {
     ghost use Rattle.std.specs.Prelude.{◌+◌};
-    ghost use Rattle.automaton.specs.Limits.{handed, dfa};
+    ghost use Rattle.automaton.specs.Sound.{meant};
     ghost use Rattle.forest.specs.Deferment.{kruskal, pairs_of, pairs_below, trees_of, alone};
     ghost use Rattle.forest.specs.Joining.{turn, trees_in};
 
@@ -43,40 +43,40 @@ impl Grove {
         requires inside { (low.0 < 512) × (high.0 < 512) }
         ensures { trees_in self.new ≡ turn (trees_in self.old) (low.0, high.0) }
     {
-        let to = self.labels[low.0 as usize];
-        let ended = self.labels[high.0 as usize];
+        let to = self.labels[usize::from(low)];
+        let ended = self.labels[usize::from(high)];
         if ended != to {
             relabel(&mut self.labels, ended, to);
-            self.joins[ended.0 as usize] = Some(Join { low, high });
+            self.joins[usize::from(ended)] = Some(Join { low, high });
         }
     }
 
     // Joins the state `s` with each larger state that it shares so many bytes with, lower ones first.
-    fn join_row(&mut self, counts: &ByteCounts<'_>, shared: u32, s: usize)
-        requires inside { s < counts.now.automaton.states }
-        ensures { let a = dfa (handed counts.now.automaton) in
-            trees_in self.new ≡ kruskal (trees_in self.old) (pairs_of a shared s a.states) }
+    fn join_row(&mut self, counts: &ByteCounts<'_>, shared: u32, s: StateNo)
+        requires inside { s.0 < (meant counts.now.automaton).states }
+        ensures { let a = meant counts.now.automaton in
+            trees_in self.new ≡ kruskal (trees_in self.old) (pairs_of a shared s.0 a.states) }
     {
-        for t in s + 1..counts.states() {
-            if counts.shared(s, t) == shared {
-                self.join(StateNo(s as u16), StateNo(t as u16));
+        for t in s.0 + 1..counts.states() {
+            if counts.shared(s, StateNo(t)) == shared {
+                self.join(s, StateNo(t));
             }
         }
     }
 
     // Joins the pairs that share so many bytes, the lower smaller state first, then the lower larger state.
     fn join_sharing(&mut self, counts: &ByteCounts<'_>, shared: u32)
-        ensures { let a = dfa (handed counts.now.automaton) in
+        ensures { let a = meant counts.now.automaton in
             trees_in self.new ≡ kruskal (trees_in self.old) (pairs_below a shared a.states) }
     {
         for s in 0..counts.states() {
-            self.join_row(counts, shared, s);
+            self.join_row(counts, shared, StateNo(s));
         }
     }
 
     // The trees of an automaton: joins the pairs that share 32 bytes or more, those that share more first.
     pub(crate) fn of(counts: &ByteCounts<'_>) -> Grove
-        ensures { trees_in result ≡ trees_of (dfa (handed counts.now.automaton)) }
+        ensures { trees_in result ≡ trees_of (meant counts.now.automaton) }
     {
         let mut grove = Grove::alone();
         for shared in (32..=256).rev() {

@@ -46,6 +46,6 @@ impl Plan {
         ensures value { result ≡ placement_in self.now state.0 }
         ensures placed { (a : Dfa) → PlanOf a self.now → state.0 < a.states → result ≡ Some (placement_of (forest_of a) state.0) }
     {
-        self.places.get(state.0 as usize).copied()
+        self.places.get(usize::from(state)).copied()
     }
 }

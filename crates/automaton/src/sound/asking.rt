@@ -1,11 +1,12 @@
 // What is asked of an automaton that keeps its limits.
-ghost use Rattle.std.specs.Prelude.{◌≡◌, ◌<◌};
+ghost use Rattle.std.specs.Prelude.{◌≡◌, ◌+◌, ◌*◌, ◌<◌, slice_range};
+ghost use Rattle.automaton.specs.Limits.{handed};
 ghost use Rattle.automaton.specs.Sound.{meant};
 
 use crate::sound::SoundAutomaton;
 use ternary::words::StateNo;
 
-impl SoundAutomaton<'_> {
+impl<'a> SoundAutomaton<'a> {
     // How many states there are.
     pub fn states(&self) -> u16
         ensures { result ≡ (meant self.now).states }
@@ -28,6 +29,15 @@ impl SoundAutomaton<'_> {
         let place = 256 * usize::from(state) + byte as usize;
         let successor = self.automaton.successors.get(place);
         successor.copied().unwrap_or_default()
+    }
+
+    // The successors of a state, byte by byte; none for a number that no state has.
+    pub fn row(&self, state: StateNo) -> &'a [StateNo]
+        ensures { result.now ≡ slice_range (handed self.now.automaton).successors (256 * state.0) (256 * state.0 + 256) }
+    {
+        let start = 256 * usize::from(state);
+        let row = self.automaton.successors.get(start..start + 256);
+        row.unwrap_or(&[])
     }
 
     // The class of a state; no mark for a number that no state has.

@@ -1,6 +1,7 @@
 // Who defers to whom, and the codes and shadows of the states.
 ghost use Rattle.std.specs.Prelude.{◌≡◌, ◌+◌, ◌*◌, ◌≤◌, length, OnOk, None};
-ghost use Rattle.automaton.specs.Limits.{handed, Within, dfa};
+ghost use Rattle.automaton.specs.Limits.{handed, dfa};
+ghost use Rattle.automaton.specs.Sound.{meant};
 ghost use Rattle.forest.specs.Codes.{numbered};
 ghost use Rattle.forest.specs.Laws.{PlanLaws};
 ghost use Rattle.forest.specs.Plan.{PlanOf, Planned, PlanAnswer, states_of};
@@ -8,6 +9,7 @@ ghost use Rattle.forest.specs.Plan.{PlanOf, Planned, PlanAnswer, states_of};
 use crate::codes::{Deferment, bits_for, each_state, shadow_mask};
 use crate::deferment::defer;
 use crate::plan::{Placement, Plan};
+use automaton::sound::SoundAutomaton;
 use automaton::words::Automaton;
 use ternary::refusal::Refusal;
 use ternary::words::StateCode;
@@ -18,38 +20,24 @@ impl Plan {
         ensures answer { PlanAnswer (handed automaton.entry) work.old work.new result }
         ensures laws { OnOk result (PlanLaws (dfa (handed automaton.entry))) }
     {
-        automaton.limits()?;
-        let states = automaton.states as usize;
+        let automaton = automaton.sound()?;
+        let states = automaton.states() as usize;
         if work.len() < states * states + 8192 {
             return Err(Refusal::WorkTooShort);
         }
-        let mut parents = [None; 512];
-        let mut depths = [0; 512];
-        Ok(planned(
-            automaton,
-            work,
-            &mut parents[0..states],
-            &mut depths[0..states],
-        ))
+        Ok(planned(automaton, work))
     }
 }
 
-// The plan of an automaton, by way of lent arrays with one place a state. Where codes would pass 16 bits, nothing is
-// joined.
-fn planned(
-    automaton: Automaton<'_>,
-    counts: &mut [u32],
-    parents: &mut [Option<u16>],
-    depths: &mut [u16],
-) -> Plan
-    requires within { Within (handed automaton) }
-    requires room { automaton.states * automaton.states ≤ length counts.old }
-    requires sizes { (length parents.old ≡ automaton.states) × (length depths.old ≡ automaton.states) }
-    ensures { PlanOf (dfa (handed automaton.entry)) result }
+// The plan of an automaton. Where codes would pass 16 bits, nothing is joined.
+fn planned(automaton: SoundAutomaton<'_>, counts: &mut [u32]) -> Plan
+    requires room { (meant automaton).states * (meant automaton).states ≤ length counts.old }
+    ensures { PlanOf (meant automaton.entry) result }
 {
-    defer(automaton, counts, depths, parents);
-    let joined = Deferment { parents, depths };
-    joined.plan().unwrap_or_else(|| flat(automaton.states))
+    let states = automaton.states();
+    let places = defer(automaton, counts);
+    let joined = Deferment { places: &places };
+    joined.plan().unwrap_or_else(|| flat(states))
 }
 
 // The plan of so many states that are all roots: their codes are their numbers.

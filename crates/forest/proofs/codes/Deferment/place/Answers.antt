@@ -1,8 +1,8 @@
-use Rattle.std.proofs.Common.{rules, ◌≡◌, ℕ, ◌-◌, ◌^◌, ◌≤◌, ◌∙◌, ap₂, arith}
+use Rattle.std.proofs.Common.{ℕ, ◌-◌, ◌^◌, ◌≤◌, get_or, ◌∙◌, ap₂, arith}
 use Rattle.forest.specs.Held.{held}
-use Rattle.forest.specs.Plan.{state_named}
+use Rattle.forest.specs.Placing.{root_place}
 use Rattle.forest.proofs.Arrays.{len_within, code_small}
-use Rattle.forest.proofs.Sums.{code_sum}
+use Rattle.forest.proofs.Sums.{code_sum, renamed}
 use Rattle.forest.proofs.codes.Deferment.place.Goals as goal
 
 pub sum_above-requires-clause-fits : goal.sum_above-requires-clause-fits
@@ -23,7 +23,7 @@ shadow_mask-requires c = (omega (arith, c.requires.lens.1 c.args.s c.requires.st
 pub returns : goal.returns
 returns c =
     let f = held c.args.self.now in
-    let named : c.map.result ≡ state_named (f.parent c.args.s) = search rules in
+    let named = renamed (get_or c.args.self.now.places.now c.args.s root_place).parent in
     let coded = c.sum_above.ensures ∙ code_sum c.args.self.now c.args.parts.now c.requires.parts c.args.s c.requires.state in
     let masked = c.shadow_mask.ensures ∙ ap₂ (λ (x y : ℕ). 2 ^ x - 2 ^ (x - y)) c.requires.width.0 (c.requires.lens.1 c.args.s c.requires.state) in
     λ i. record { parent = named i; depth = f.depth c.args.s; code = record { 0 = coded i }; mask = masked i }

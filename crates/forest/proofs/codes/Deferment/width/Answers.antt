@@ -14,4 +14,4 @@ returns c =
     let lens = c.args.lens.now in
     let folded : c.fold.result ≡ fold max 0 lens = search (rules, chains) in
     folded ∙ most_fold lens f.states c.requires.0 ∙ most_same_below (λ k. get_or lens k 0) f.len f.states c.requires.1
-    ∙ sym (width_longest f.states f.parent f.depth self.described.rooted)
+    ∙ sym (width_longest f.states f.parent f.depth self.rooted)

@@ -1,7 +1,7 @@
-use Rattle.automaton.specs.Limits.{handed, dfa}
+use Rattle.automaton.specs.Sound.{meant}
 use Rattle.forest.specs.Sharing.{RowsCounted}
 use Rattle.forest.proofs.sharing.ByteCounts.of.Given as goal
 
 -- the rows below s are counted
 abbrev pub invariant-loop-s : goal.invariant-loop-s
-invariant-loop-s l = RowsCounted (dfa (handed l.automaton)) l.shared l.s
+invariant-loop-s l = RowsCounted (meant l.automaton) l.shared l.s

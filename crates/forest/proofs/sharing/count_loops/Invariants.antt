@@ -1,7 +1,0 @@
-use Rattle.automaton.specs.Limits.{handed, dfa}
-use Rattle.forest.specs.Sharing.{LoopsCounted}
-use Rattle.forest.proofs.sharing.count_loops.Given as goal
-
--- the states below s are counted
-abbrev pub invariant-loop-s : goal.invariant-loop-s
-invariant-loop-s l = LoopsCounted (dfa (handed l.automaton)) l.count-items l.s
