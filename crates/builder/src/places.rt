@@ -30,6 +30,7 @@ impl Planned<'_> {
         ensures { result ≡ height (forest_of (meant self.now.automaton)) (meant self.now.automaton).states }
     {
         let mut height = 0;
+        // `map` and `fold` are not proved yet over states that are asked for by their numbers.
         for s in 0..self.automaton.states() {
             let below = self.place_of(StateNo(s)).depth as usize + 1;
             height = height.max(below);

@@ -43,6 +43,7 @@ fn join_field(words: &[u64], base: usize, number: u16, width: usize) -> u64
     ensures { (p : ℕ) → p < 64 → bit result p ≡ agrees words.now base p number width }
 {
     let mut joined = u64::MAX;
+    // The number of a key bit gives the bit of the number and the place of its two words.
     for k in 0..width {
         let value = (number >> k) & 1;
         joined &= words[base + 2 * k + value as usize];

@@ -58,6 +58,7 @@ pub(crate) fn check_in<T: Readable>(
     requires { first + T.SIZE * count < 2 ^ 32 }
     ensures { result ≡ verdict (each_fault (T.fault limit) T.SIZE first (map (item_in T.SIZE T.said bytes.now first) (range_with_len 0 count))) }
 {
+    // The index gives the offset of the item too.
     for index in 0..count {
         let at = first + T::SIZE * index;
         T::read(bytes, at).check(limit, at)?;

@@ -35,6 +35,7 @@ fn check_records(records: &[u8], states: u16) -> Result<(), Refusal>
 {
     let mut rest = records;
     let mut at = 9;
+    // A record says its own length, so there is no slice of records to walk.
     for _state in 0..states {
         let size = check_record(states, at, rest)?;
         rest = &rest[size..];

@@ -15,6 +15,7 @@ pub(crate) fn fill(records: &[u8], successors: &mut [StateNo], classes: &mut [u8
     ensures marks { classes.new ≡ written classes.old 0 (map class_of (records_in states records.now)) }
 {
     let mut rest = records;
+    // Two buffers are filled from a third that is read record by record: no iterator walks all three.
     for state in 0..states {
         let Some(record) = Record::read(rest) else {
             return unreachable();

@@ -70,6 +70,7 @@ impl Record<'_> {
         if self.default.0 >= states {
             return Err(Refusal::Malformed(at + 3));
         }
+        // The index gives the offset of the range too.
         for index in 0..self.count {
             range_at(self.ranges, index).check(states, at + 5 + 4 * index)?;
         }
