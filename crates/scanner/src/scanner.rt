@@ -67,9 +67,7 @@ impl<C: Card> Scanner<C> {
         ensures answer { FeedAnswer (C.entries self.old.card) self.old.position self.new.position piece.now marks.old marks.new result }
         ensures keeps { KeepsOn (Feeds piece.now (length marks.old)) (seen C.entries C.size self.old) (fed_told result marks.new) (seen C.entries C.size self.new) }
     {
-        let Some(at) = self.position else {
-            return Err(Refusal::NotLoaded);
-        };
+        let at = self.position.ok_or(Refusal::NotLoaded)?;
         let answer = walk(&self.card, at.code, piece, marks);
         let code = code_reached(at.code, &answer);
         self.position = Some(Position {
@@ -86,9 +84,7 @@ impl<C: Card> Scanner<C> {
         ensures answer { RestartAnswer self.old.position self.new.position result }
         ensures keeps { KeepsOn Restarts (seen C.entries C.size self.old) (done_told result) (seen C.entries C.size self.new) }
     {
-        let Some(at) = self.position else {
-            return Err(Refusal::NotLoaded);
-        };
+        let at = self.position.ok_or(Refusal::NotLoaded)?;
         self.position = Some(Position {
             start: at.start,
             code: at.start,
