@@ -1,5 +1,11 @@
 ghost use Rattle.std.specs.Prelude.{◌≡◌};
 
+// The most states that an automaton may have, and so the most codes of a table.
+pub const MOST_STATES: usize = 512;
+
+// The most entries that a table may have.
+pub const MOST_ENTRIES: usize = 4096;
+
 // A state of an automaton, numbered from 0.
 #[derive(Clone, Copy, PartialEq, Eq, Default, Debug)]
 pub struct StateNo(pub u16);
