@@ -132,7 +132,7 @@ file_comes_back file none small =
     let count : length states ≡ n = length-records_in n (drop 9 file) in (
       subst (λ (k : ℕ). (1 ≤ k) × (k ≤ 512) × (word file 7 < k) × AllByRecursion (RecordOk k) states) (sym count)
           (good.some, good.few, good.start, records.0),
-      file_back file small good.room (body (decode file)) (body_back file small good.room states count records.1) good.version good.size,
+      file_back file small good.frame.room (body (decode file)) (body_back file small good.frame.room states count records.1) good.frame.version good.frame.size,
     )
 
 ranges_fine : (n at : ℕ) (rs : List ByteRange) → AllByRecursion (RangeOk n) rs → each_fault (range_fault n) 4 at rs ≡ None
@@ -225,7 +225,7 @@ source_comes_back a ok =
     let short : length (body a) < 4294967296 = omega (arith, length_records n a.states ok.3, few) in
     let size : long file 1 ≡ length (body a) = be32_back (length (body a)) short in
     let back = states_read n a.states few ok.3 in (
-      file_records file (omega arith) refl (size ∙ omega arith) (omega (arith, ok.0, states)) (omega (arith, few, states)) (omega (arith, ok.2, start, states))
+      file_records file (record { room = omega arith; version = refl; size = size ∙ omega arith }) (omega (arith, ok.0, states)) (omega (arith, few, states)) (omega (arith, ok.2, start, states))
           ∙ ((λ i. records_fault (states i) (states i) 9 records) ∙ records_read n 9 a.states few ok.3),
       (λ i. record { start = start i; states = ((λ j. records_in (states j) records) ∙ back) i }),
     )

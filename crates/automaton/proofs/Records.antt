@@ -1,17 +1,18 @@
 -- Ranges and records, one at a time.
-use Rattle.std.proofs.Common.{◌≡◌, ℕ, zero, suc, ◌+◌, ◌-◌, ◌*◌, ◌/◌, ◌%◌, ◌<◌, ◌≤◌, true, false, cond, ◌&&◌, eqb, ltb, leb, List, [], ◌∷◌, length, get_or, drop, is_some, None, Some, Ok, Err, Option, sym, refl, ap, ◌∙◌, subst, arith}
-use Rattle.std.specs.List.{find}
+use Rattle.std.proofs.Common.{◌≡◌, ℕ, zero, suc, ◌+◌, ◌*◌, ◌/◌, ◌%◌, ◌<◌, ◌≤◌, true, false, cond, ◌&&◌, eqb, ltb, leb, List, [], ◌∷◌, map, length, get_or, take, drop, is_some, None, Some, Ok, Err, Option, sym, refl, ap, ◌∙◌, subst, arith}
+use Rattle.std.specs.List.{find, range_with_len}
+use Rattle.std.specs.Simd.{first_chunks}
 use Rattle.std.specs.Option.{option_map, unwrap_or}
-use Rattle.std.proofs.lemmas.List.{drop_more}
+use Rattle.std.proofs.lemmas.List.{drop_more, drop-drop, get_or-take, get_or-drop}
 use Rattle.std.proofs.lemmas.List.FromFn.{length-map-range_with_len}
 use Rattle.std.proofs.lemmas.Bool.{cond-true, and_from, and_parts, le-leb, leb-true, eq-eqb, eqb-true, lt-ltb, ltb-true}
-use Rattle.fields.proofs.Faults.{passed, stopped, both_pass, check_pass, pass, last_fault}
+use Rattle.fields.proofs.Faults.{passed, stopped, both_pass, check_pass, pass, last_fault, Framed, framed, frame_passed}
 use Rattle.ternary.specs.declared.refusal.Refusal.TheVariants.{OutputTooShort}
 use Rattle.ternary.specs.Refusals.{refuse_or}
 use Rattle.ternary.specs.declared.words.StateNo.{StateNo}
 use Rattle.automaton.specs.declared.words.ByteRange.{ByteRange}
-use Rattle.fields.specs.Fields.{word, long, check, or_else, each_fault}
-use Rattle.automaton.specs.File.{fault, fields_fault, read_answer, header_of, room_for, StateRecord, range_at, ranges_in, in_range, next_by, record_size, length_fits, range_fault, parts_fault, record_fault, records_fault, record_in, records_in}
+use Rattle.fields.specs.Fields.{word, check, or_else, each_fault, frame_fault}
+use Rattle.automaton.specs.File.{fault, fields_fault, read_answer, header_of, room_for, StateRecord, state_no, range_at, range_of, ranges_in, in_range, next_by, record_size, length_fits, range_fault, parts_fault, record_fault, records_fault, record_in, records_in}
 
 -- the successor on a byte, as a search that ends at the first range that holds it
 pub next_found : (rs : List ByteRange) (default : StateNo) (byte : ℕ) → unwrap_or (option_map (λ r. r.next) (find (λ r. in_range r byte) rs)) default ≡ next_by rs default byte
@@ -19,6 +20,30 @@ next_found [] default byte = refl
 next_found (r ∷ rs) default byte =
     elim (in_range r byte) as (λ t. unwrap_or (option_map (λ x. x.next) (cond t (Some r) (find (λ x. in_range x byte) rs))) default ≡ cond t r.next (next_by rs default byte))
     [ true ↦ refl | false ↦ next_found rs default byte ]
+
+-- ranges that were cut into four bytes each
+module _ (bs : List ℕ) (n : ℕ) where
+  cell : (a j : ℕ) → 4 * a + 4 ≤ n → j < 4 → get_or (take 4 (drop (4 * a) (take n bs))) j 0 ≡ get_or bs (4 * a + j) 0
+  cell a j room lt =
+      get_or-take 4 (drop (4 * a) (take n bs)) j 0 lt
+      ∙ (get_or-drop (4 * a) (take n bs) j 0 ∙ get_or-take n bs (4 * a + j) 0 (omega arith))
+
+  range_cut : (a : ℕ) → 4 * a + 4 ≤ n → range_of (take 4 (drop (4 * a) (take n bs))) ≡ range_at bs a
+  range_cut a room =
+      let item : List ℕ = take 4 (drop (4 * a) (take n bs)) in
+      let low : get_or item 0 0 ≡ get_or bs (4 * a) 0 = cell a 0 room (omega arith) ∙ ap (λ (k : ℕ). get_or bs k 0) (omega arith) in
+      let high = cell a 1 room (omega arith) in
+      let n1 = cell a 2 room (omega arith) in
+      let n0 : get_or item 3 0 ≡ get_or bs (4 * a + 2 + 1) 0 = cell a 3 room (omega arith) ∙ ap (λ (k : ℕ). get_or bs k 0) (omega arith) in
+      λ i. record { low = low i; high = high i; next = state_no (n1 i * 256 + n0 i) }
+
+  pub ranges_cut : (a k : ℕ) → 4 * (a + k) ≤ n → map range_of (first_chunks 4 k (drop (4 * a) (take n bs))) ≡ map (range_at bs) (range_with_len a k)
+  ranges_cut a zero room = refl
+  ranges_cut a (suc k) room =
+      let this = range_cut a (omega arith) in
+      let on : drop 4 (drop (4 * a) (take n bs)) ≡ drop (4 * (a + 1)) (take n bs) = drop-drop 4 (4 * a) (take n bs) ∙ ap (λ (j : ℕ). drop j (take n bs)) (omega arith) in
+      (λ i. this i ∷ map range_of (first_chunks 4 k (on i)))
+      ∙ ap (λ (l : List ByteRange). range_at bs a ∷ l) (ranges_cut (a + 1) k (omega arith))
 
 pub length-fits : (rest : List ℕ) → record_size rest ≤ length rest → word rest 0 % 4 ≡ 3 → length_fits rest ≡ true
 length-fits rest within four =
@@ -89,20 +114,16 @@ first_record left fewer i rest all e lt h =
     (cc, cc)
 
 -- a file whose header keeps the rules has the fault of its records
-pub file_records : (file : List ℕ) → 9 ≤ length file → get_or file 0 0 ≡ 1 → long file 1 ≡ length file - 5 → 1 ≤ word file 5 → word file 5 ≤ 512 → word file 7 < word file 5 → fault file ≡ records_fault (word file 5) (word file 5) 9 (drop 9 file)
-file_records file room version size some few start =
-    pass (leb 9 (length file)) (length file) (fields_fault file) (le-leb 9 (length file) room)
-    ∙ (pass (eqb (get_or file 0 0) 1) 0 _ (eq-eqb (get_or file 0 0) 1 version)
-    ∙ (pass (eqb (long file 1) (length file - 5)) 1 _ (eq-eqb (long file 1) (length file - 5) size)
+pub file_records : (file : List ℕ) → Framed 4 file → 1 ≤ word file 5 → word file 5 ≤ 512 → word file 7 < word file 5 → fault file ≡ records_fault (word file 5) (word file 5) 9 (drop 9 file)
+file_records file frame some few start =
+    frame_passed 4 file (fields_fault file) frame
     ∙ (pass (leb 1 (word file 5) && leb (word file 5) 512) 5 _ (and_from (leb 1 (word file 5)) (leb (word file 5) 512) (le-leb 1 (word file 5) some) (le-leb (word file 5) 512 few))
     ∙ (pass (ltb (word file 7) (word file 5)) 7 _ (lt-ltb (word file 7) (word file 5) start)
-    ∙ last_fault _))))
+    ∙ last_fault _))
 
 -- what a file with no fault keeps
 pub record Accepted (file : List ℕ) : Type 0 where
-  pub room : 9 ≤ length file
-  pub version : get_or file 0 0 ≡ 1
-  pub size : long file 1 ≡ length file - 5
+  pub frame : Framed 4 file
   pub some : 1 ≤ word file 5
   pub few : word file 5 ≤ 512
   pub start : word file 7 < word file 5
@@ -110,16 +131,12 @@ pub record Accepted (file : List ℕ) : Type 0 where
 
 pub accepted_parts : (file : List ℕ) → fault file ≡ None → Accepted file
 accepted_parts file none =
-    let a = both_pass (check (leb 9 (length file)) (length file)) (fields_fault file) (ap is_some none) in
-    let b = both_pass (check (eqb (get_or file 0 0) 1) 0) _ a.1 in
-    let c = both_pass (check (eqb (long file 1) (length file - 5)) 1) _ b.1 in
-    let d = both_pass (check (leb 1 (word file 5) && leb (word file 5) 512) 5) _ c.1 in
+    let a = both_pass (frame_fault 4 file) (fields_fault file) (ap is_some none) in
+    let d = both_pass (check (leb 1 (word file 5) && leb (word file 5) 512) 5) _ a.1 in
     let e = both_pass (check (ltb (word file 7) (word file 5)) 7) _ d.1 in
     let limits = and_parts (leb 1 (word file 5)) (leb (word file 5) 512) (check_pass _ _ d.0) in
     record {
-      room = leb-true 9 (length file) (check_pass _ _ a.0);
-      version = eqb-true (get_or file 0 0) 1 (check_pass _ _ b.0);
-      size = eqb-true (long file 1) (length file - 5) (check_pass _ _ c.0);
+      frame = framed 4 file a.0;
       some = leb-true 1 (word file 5) limits.0;
       few = leb-true (word file 5) 512 limits.1;
       start = ltb-true (word file 7) (word file 5) (check_pass _ _ e.0);

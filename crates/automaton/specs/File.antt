@@ -1,11 +1,11 @@
 -- The automaton file: what it says, its bytes, its first fault, and the buffers that reading fills. Assumes nothing.
-use Rattle.std.specs.Prelude.{ℕ, zero, suc, ◌+◌, ◌-◌, ◌*◌, ◌/◌, ◌%◌, Bool, cond, ◌&&◌, List, [], ◌∷◌, ◌++◌, map, length, drop, is_ok, Ok, Err, Option, Result, ◌==◌, nat_le, nat_lt, slice_index}
+use Rattle.std.specs.Prelude.{ℕ, zero, suc, ◌+◌, ◌*◌, ◌/◌, ◌%◌, Bool, cond, ◌&&◌, List, [], ◌∷◌, ◌++◌, map, length, drop, is_ok, Ok, Err, Option, Result, ◌==◌, nat_le, nat_lt, slice_index}
 use Rattle.std.specs.List.{range_with_len, flat_map}
 use Rattle.ternary.specs.declared.refusal.Refusal.{Refusal}
 use Rattle.ternary.specs.declared.refusal.Refusal.TheVariants.{OutputTooShort}
 use Rattle.ternary.specs.Refusals.{refuse_or}
 use Rattle.ternary.specs.declared.words.StateNo.{StateNo}
-use Rattle.fields.specs.Fields.{word, long, be16, be32, written, check, or_else, first_of, each_fault}
+use Rattle.fields.specs.Fields.{word, be16, be32, written, check, or_else, first_of, each_fault, frame_fault}
 use Rattle.automaton.specs.declared.words.ByteRange.{ByteRange}
 use Rattle.automaton.specs.declared.file.record.Record.{Record}
 use Rattle.automaton.specs.declared.words.Header.{Header}
@@ -80,9 +80,13 @@ range_at bs k = record { low = slice_index bs (4 * k); high = slice_index bs (4 
 abbrev pub ranges_in : List ℕ → ℕ → List ByteRange
 ranges_in bs n = map (range_at bs) (range_with_len 0 n)
 
+-- the range that four bytes say
+abbrev pub range_of : List ℕ → ByteRange
+range_of bs = range_at bs 0
+
 -- what a record that was taken apart says
 abbrev pub said : Record → StateRecord
-said r = record { class = r.class; default = r.default; ranges = ranges_in r.ranges.now r.count }
+said r = record { class = r.class; default = r.default; ranges = map range_of r.ranges.now }
 
 -- how many bytes a record takes: its length and the two bytes that say it
 abbrev pub record_size : List ℕ → ℕ
@@ -124,18 +128,16 @@ abbrev pub records_fault : ℕ → ℕ → ℕ → List ℕ → Option ℕ
 records_fault n zero at rest = check (length rest == 0) at
 records_fault n (suc left) at rest = or_else (record_fault n at rest) (records_fault n left (at + record_size rest) (drop (record_size rest) rest))
 
--- of a file of nine bytes or more: version, length of the rest, number of states, start state, records
+-- of what follows the length of the rest: number of states, start state, records
 abbrev pub fields_fault : List ℕ → Option ℕ
 fields_fault file = first_of (
-    check (slice_index file 0 == 1) 0 ∷
-    check (long file 1 == length file - 5) 1 ∷
     check (nat_le 1 (word file 5) && nat_le (word file 5) 512) 5 ∷
     check (nat_lt (word file 7) (word file 5)) 7 ∷
     records_fault (word file 5) (word file 5) 9 (drop 9 file) ∷ [])
 
--- of a file: fewer than nine bytes are refused at their number
+-- of a file: fewer than nine bytes are refused at their number, then version, length of the rest, and what follows it
 abbrev pub fault : List ℕ → Option ℕ
-fault file = or_else (check (nat_le 9 (length file)) (length file)) (fields_fault file)
+fault file = or_else (frame_fault 4 file) (fields_fault file)
 
 -- What reading answers and leaves
 

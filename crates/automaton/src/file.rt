@@ -34,7 +34,7 @@ fn read_into(file: &[u8], successors: &mut [StateNo], classes: &mut [u8]) -> Res
     ensures classes { classes.new ≡ filled result classes.old (classes_of (decode file.now)) }
 {
     check_file(file)?;
-    let header = header(file);
+    let header = Header::read(file);
     let states = header.states as usize;
     if successors.len() < 256 * states || classes.len() < states {
         return Err(Refusal::OutputTooShort);
@@ -43,12 +43,14 @@ fn read_into(file: &[u8], successors: &mut [StateNo], classes: &mut [u8]) -> Res
     Ok(header)
 }
 
-// The number of states and the start state that a file says.
-fn header(file: &[u8]) -> Header
-    ensures { result ≡ header_of file.now }
-{
-    Header {
-        states: word_at(file, 5),
-        start: StateNo(word_at(file, 7)),
+impl Header {
+    // The number of states and the start state that a file says.
+    pub(crate) fn read(file: &[u8]) -> Header
+        ensures { result ≡ header_of file.now }
+    {
+        Header {
+            states: word_at(file, 5),
+            start: StateNo(word_at(file, 7)),
+        }
     }
 }

@@ -5,10 +5,7 @@ ghost use Rattle.automaton.specs.Limits.{handed, Within};
 
 use crate::words::Automaton;
 use ternary::refusal::Refusal;
-use ternary::words::StateNo;
-
-// The most states that an automaton may have.
-const MOST_STATES: u16 = 512;
+use ternary::words::MOST_STATES;
 
 impl Automaton<'_> {
     // Accepts an automaton that keeps its limits and buffer lengths.
@@ -27,13 +24,13 @@ impl Automaton<'_> {
 fn within(automaton: Automaton<'_>) -> bool
     ensures { Decides result (Within (handed automaton.entry)) }
 {
-    if automaton.states == 0 || automaton.states > MOST_STATES {
+    let states = usize::from(automaton.states);
+    if states == 0 || states > MOST_STATES {
         return false;
     }
     if automaton.start.0 >= automaton.states {
         return false;
     }
-    let states = automaton.states as usize;
     if automaton.successors.len() != 256 * states || automaton.classes.len() != states {
         return false;
     }

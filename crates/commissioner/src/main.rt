@@ -11,22 +11,20 @@ use commission::words::{Answer, Call, Done, Filing, Report};
 use std::alloc::{AllocError, Global};
 use std::{env, fs, io};
 use ternary::entry::Entry;
-use ternary::words::StateNo;
+use ternary::words::{MOST_ENTRIES, MOST_STATES, StateNo};
 
 // The bytes of a piece, and the mark slots for it.
 const PIECE: usize = 8;
 
 const SLOTS: usize = 4;
 
-// The most states of an automaton, and the successors of so many.
-const MOST_STATES: usize = 512;
+// The successors of the largest automaton.
+const MOST_SUCCESSORS: usize = 256 * MOST_STATES;
 
-const MOST_SUCCESSORS: usize = 131_072;
+// The numbers of working memory that suffice for the largest automaton, and the bytes of the largest image.
+const WORK: usize = MOST_STATES * MOST_STATES + 8192;
 
-// The numbers of working memory that suffice for 512 states, and the bytes of the largest image.
-const WORK: usize = 270_336;
-
-const LARGEST_IMAGE: usize = 37_900;
+const LARGEST_IMAGE: usize = 12 + 2 * MOST_STATES + 9 * MOST_ENTRIES;
 
 fn main(rt: HostRuntime) -> anyhow::Result<()> {
     serve(&rt)
@@ -68,7 +66,7 @@ fn show(rt: &HostRuntime, filing: Filing, stream: &[u8]) -> io::Result<()> {
     let calls = journey(heap, &filing, stream)?;
     let mut work = vec![in heap; 0; WORK]?;
     let mut out = vec![in heap; 0; LARGEST_IMAGE]?;
-    let mut places = vec![in heap; Entry::default(); 4096]?;
+    let mut places = vec![in heap; Entry::default(); MOST_ENTRIES]?;
     let report = commission(
         heap,
         filing.automaton(),

@@ -1,10 +1,10 @@
 -- The first fault of a list of items, found one item at a time.
-use Rattle.std.proofs.Common.{◌≡◌, ℕ, ◌+◌, ◌<◌, ◌≤◌, Bool, true, false, List, [], ◌∷◌, map, length, get_or, drop, is_some, Some, None, Option, sym, refl, ap, ◌∙◌, arith}
+use Rattle.std.proofs.Common.{◌≡◌, ℕ, ◌+◌, ◌-◌, ◌<◌, ◌≤◌, eqb, leb, Bool, true, false, List, [], ◌∷◌, map, length, get_or, drop, is_some, Some, None, Option, sym, refl, ap, ◌∙◌, arith}
 use Rattle.std.specs.List.{range_with_len, AllByRecursion}
 use Rattle.std.proofs.lemmas.List.{at_drop_more, at_drop_all}
-use Rattle.std.proofs.lemmas.Bool.{true≢false, false≢true}
+use Rattle.std.proofs.lemmas.Bool.{true≢false, false≢true, le-leb, leb-true, eq-eqb, eqb-true}
 use Rattle.std.proofs.lemmas.List.FromFn.{get_or-map-range_with_len, length-map-range_with_len}
-use Rattle.fields.specs.Fields.{check, or_else, each_fault}
+use Rattle.fields.specs.Fields.{long, check, or_else, each_fault, frame_fault}
 
 pub passed : (f next : Option ℕ) → is_some f ≡ false → or_else f next ≡ next
 passed None next h = refl
@@ -80,3 +80,28 @@ each_pass P f step one at (x ∷ xs) h =
 pub each_made : {X Y : Type 0} (f : ℕ → Y → Option ℕ) (make : X → Y) (step at : ℕ) (xs : List X) → each_fault (λ k x. f k (make x)) step at xs ≡ each_fault f step at (map make xs)
 each_made f make step at [] = refl
 each_made f make step at (x ∷ xs) = ap (or_else (f at (make x))) (each_made f make step (at + step) xs)
+
+-- what a version and a length with no fault keep
+pub record Framed (least : ℕ) (bs : List ℕ) : Type 0 where
+  pub room : 5 + least ≤ length bs
+  pub version : get_or bs 0 0 ≡ 1
+  pub size : long bs 1 ≡ length bs - 5
+
+pub framed : (least : ℕ) (bs : List ℕ) → is_some (frame_fault least bs) ≡ false → Framed least bs
+framed least bs h =
+    let a = both_pass (check (leb (5 + least) (length bs)) (length bs)) _ h in
+    let b = both_pass (check (eqb (get_or bs 0 0) 1) 0) _ a.1 in
+    let c = both_pass (check (eqb (long bs 1) (length bs - 5)) 1) None b.1 in
+    record {
+      room = leb-true (5 + least) (length bs) (check_pass _ _ a.0);
+      version = eqb-true (get_or bs 0 0) 1 (check_pass _ _ b.0);
+      size = eqb-true (long bs 1) (length bs - 5) (check_pass _ _ c.0);
+    }
+
+-- and back
+pub frame_passed : (least : ℕ) (bs : List ℕ) (next : Option ℕ) → Framed least bs → or_else (frame_fault least bs) next ≡ next
+frame_passed least bs next good =
+    ap (λ (f : Option ℕ). or_else f next)
+    (pass (leb (5 + least) (length bs)) (length bs) _ (le-leb (5 + least) (length bs) good.room)
+    ∙ (pass (eqb (get_or bs 0 0) 1) 0 _ (eq-eqb (get_or bs 0 0) 1 good.version)
+    ∙ pass (eqb (long bs 1) (length bs - 5)) 1 None (eq-eqb (long bs 1) (length bs - 5) good.size)))

@@ -1,5 +1,5 @@
 -- Big-endian fields in a list of bytes, and the first of several faults. Assumes nothing.
-use Rattle.std.specs.Prelude.{ℕ, ◌+◌, ◌*◌, ◌/◌, ◌%◌, Bool, cond, List, [], ◌∷◌, ◌++◌, length, take, drop, Some, None, Option, slice_index}
+use Rattle.std.specs.Prelude.{ℕ, ◌+◌, ◌-◌, ◌*◌, ◌/◌, ◌%◌, Bool, cond, List, [], ◌∷◌, ◌++◌, length, take, drop, Some, None, Option, ◌==◌, nat_le, slice_index}
 
 -- the number in the two bytes at `at`
 abbrev pub word : List ℕ → ℕ → ℕ
@@ -39,3 +39,11 @@ first_of (f ∷ fs) = or_else f (first_of fs)
 abbrev pub each_fault : {X : Type 0} → (ℕ → X → Option ℕ) → ℕ → ℕ → List X → Option ℕ
 each_fault fault step at [] = None
 each_fault fault step at (x ∷ xs) = or_else (fault at x) (each_fault fault step (at + step) xs)
+
+-- the first fault of a version, the length of the rest, and a rest of at least so many bytes: fewer bytes are refused at
+-- their number, then another version than 1, then a length that is not that of the rest
+abbrev pub frame_fault : ℕ → List ℕ → Option ℕ
+frame_fault least bs = first_of (
+    check (nat_le (5 + least) (length bs)) (length bs) ∷
+    check (slice_index bs 0 == 1) 0 ∷
+    check (long bs 1 == length bs - 5) 1 ∷ [])

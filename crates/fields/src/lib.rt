@@ -1,5 +1,7 @@
 #![tactic(auto)]
 
+pub mod frame;
+
 ghost use Rattle.std.specs.Prelude.{◌≡◌, slice_index};
 ghost use Rattle.fields.specs.Fields.{word};
 

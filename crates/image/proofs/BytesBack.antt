@@ -1,37 +1,31 @@
 -- The parts of an image with no fault keep the rules and pack to the same bytes.
-use Rattle.std.proofs.Common.{◌≡◌, ℕ, ◌+◌, ◌-◌, ◌*◌, ◌^◌, ◌<◌, ◌≤◌, false, eqb, leb, List, [], ◌∷◌, ◌++◌, map, length, get_or, take, drop, is_some, None, Option, sym, ap, ◌∙◌, add-zero, arith, length-drop, take-append-drop, length-take, get_or-drop, get_or-take}
+use Rattle.std.proofs.Common.{◌≡◌, ℕ, ◌+◌, ◌-◌, ◌*◌, ◌^◌, ◌<◌, ◌≤◌, false, eqb, List, [], ◌∷◌, ◌++◌, map, length, get_or, take, drop, is_some, None, Option, sym, ap, ◌∙◌, add-zero, arith, length-drop, take-append-drop, length-take, get_or-drop, get_or-take}
 use Rattle.std.specs.List.{range_with_len, flat_map, AllByRecursion}
 use Rattle.std.proofs.lemmas.List.FromFn.{length-map-range_with_len, fill_by_all}
 use Rattle.std.proofs.lemmas.List.{drop-drop, take_all, length-map}
-use Rattle.std.proofs.lemmas.Bool.{leb-true, eqb-true}
-use Rattle.fields.specs.Fields.{word, long, be16, be32, check, or_else, each_fault}
+use Rattle.std.proofs.lemmas.Bool.{eqb-true}
+use Rattle.fields.specs.Fields.{word, long, be16, be32, check, or_else, each_fault, frame_fault}
 use Rattle.fields.proofs.Bytes.{be16_read, be32_read, joined_made}
-use Rattle.fields.proofs.Faults.{both_pass, check_pass, none_from, each_pass}
+use Rattle.fields.proofs.Faults.{both_pass, check_pass, none_from, each_pass, Framed, framed}
 use Rattle.image.specs.Format.{code_at, code_bytes, codes_in, decode, encode, entry_from, header_bytes, raw_at, raw_bytes, raws_in, size}
 use Rattle.image.specs.Rules.{code_fault, fault, header_fault, items_fault, parts_fault, raw_fault}
 use Rattle.image.proofs.Raws.{Kept, kept, raws_again, entry_bytes_lem}
 
 -- the rules of an image, as facts
 record Sound (bs : List ℕ) : Type 0 where
-  room : 12 ≤ length bs
-  version : get_or bs 0 0 ≡ 1
-  rest : long bs 1 ≡ length bs - 5
+  frame : Framed 7 bs
   header : is_some (header_fault (get_or bs 5 0) (word bs 6) (word bs 8) (word bs 10)) ≡ false
   fits : length bs ≡ size (word bs 6) (word bs 10)
   items : is_some (items_fault (get_or bs 5 0) (codes_in bs) (raws_in bs)) ≡ false
 
 sound : (bs : List ℕ) → is_some (fault bs) ≡ false → Sound bs
 sound bs h =
-    let a = both_pass (check (leb 12 (length bs)) (length bs)) _ h in
-    let b = both_pass (check (eqb (get_or bs 0 0) 1) 0) _ a.1 in
-    let d = both_pass (check (eqb (long bs 1) (length bs - 5)) 1) _ b.1 in
+    let d = both_pass (frame_fault 7 bs) _ h in
     let e = both_pass (header_fault (get_or bs 5 0) (word bs 6) (word bs 8) (word bs 10)) _ d.1 in
     let f = both_pass (check (eqb (length bs) (size (word bs 6) (word bs 10))) 12) _ e.1 in
     let g = both_pass (items_fault (get_or bs 5 0) (codes_in bs) (raws_in bs)) None f.1 in
     record {
-      room = leb-true 12 (length bs) (check_pass _ _ a.0);
-      version = eqb-true (get_or bs 0 0) 1 (check_pass _ _ b.0);
-      rest = eqb-true (long bs 1) (length bs - 5) (check_pass _ _ d.0);
+      frame = framed 7 bs d.0;
       header = e.0;
       fits = eqb-true (length bs) (size (word bs 6) (word bs 10)) (check_pass _ _ f.0);
       items = g.0;
@@ -74,15 +68,15 @@ module _ (bs : List ℕ) (small : (k : ℕ) → get_or bs k 0 < 256) where
 
   header_back : Sound bs → header_bytes (get_or bs 5 0) (word bs 6) (word bs 8) (word bs 10) ≡ take 12 bs
   header_back h =
-      let version : 1 ≡ get_or bs 0 0 = sym h.version in
-      let rest : size (word bs 6) (word bs 10) - 5 ≡ long bs 1 = ap (λ (k : ℕ). k - 5) (sym h.fits) ∙ sym h.rest in
+      let version : 1 ≡ get_or bs 0 0 = sym h.frame.version in
+      let rest : size (word bs 6) (word bs 10) - 5 ≡ long bs 1 = ap (λ (k : ℕ). k - 5) (sym h.fits) ∙ sym h.frame.size in
       let l : be32 (size (word bs 6) (word bs 10) - 5) ≡ get_or bs 1 0 ∷ get_or bs 2 0 ∷ get_or bs 3 0 ∷ get_or bs 4 0 ∷ [] =
       ap be32 rest ∙ be32_read (get_or bs 1 0) (get_or bs 2 0) (get_or bs 3 0) (get_or bs 4 0) (small 1) (small 2) (small 3) (small 4) in
       let n = word_bytes 6 in
       let s = word_bytes 8 in
       let m = word_bytes 10 in
       (λ i. version i ∷ l i ++ (get_or bs 5 0 ∷ n i ++ (s i ++ m i)))
-      ∙ sym (bytes_from bs 12 0 h.room)
+      ∙ sym (bytes_from bs 12 0 h.frame.room)
 
   -- the header, the codes and the entries, one after another
   encode-decode : Sound bs → AllByRecursion (Kept (2 ^ get_or bs 5 0)) (raws_in bs) → encode (decode bs) ≡ bs

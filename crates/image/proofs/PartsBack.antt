@@ -1,14 +1,14 @@
 -- The image of parts that keep the rules has no fault and says those parts.
-use Rattle.std.proofs.Common.{◌≡◌, ℕ, ◌+◌, ◌-◌, ◌*◌, ◌/◌, ◌%◌, ◌^◌, ◌<◌, ◌≤◌, eqb, leb, List, [], ◌++◌, map, length, get_or, is_some, None, Option, sym, refl, ap, ◌∙◌, append_assoc, append-nil, arith, length-append, pow_mono}
+use Rattle.std.proofs.Common.{◌≡◌, ℕ, ◌+◌, ◌-◌, ◌*◌, ◌/◌, ◌%◌, ◌^◌, ◌<◌, ◌≤◌, eqb, List, [], ◌++◌, map, length, get_or, is_some, None, Option, sym, refl, ap, ◌∙◌, append_assoc, append-nil, arith, length-append, pow_mono}
 use Rattle.std.specs.List.{range_with_len, flat_map}
 use Rattle.std.proofs.lemmas.List.FromFn.{fill_by_all}
 use Rattle.std.proofs.ByRecursion.{All-get_or}
 use Rattle.std.proofs.lemmas.List.{length-map}
-use Rattle.std.proofs.lemmas.Bool.{eq-eqb, le-leb}
+use Rattle.std.proofs.lemmas.Bool.{eq-eqb}
 use Rattle.ternary.specs.declared.words.StateCode.{StateCode}
 use Rattle.fields.specs.Fields.{word, long, or_else, check}
 use Rattle.fields.proofs.Bytes.{be16_back, be32_back, byte_of_item}
-use Rattle.fields.proofs.Faults.{both_pass, none_from, pass}
+use Rattle.fields.proofs.Faults.{both_pass, none_from, pass, frame_passed}
 use Rattle.fields.proofs.Writes.{length_joined}
 use Rattle.image.specs.declared.raw.RawEntry.{RawEntry}
 use Rattle.image.specs.Format.{Parts, code_at, code_bytes, codes_in, decode, encode, entry_bytes, entry_from, fields_at, raw_at, raw_bytes, raw_of, raws_in, size}
@@ -106,11 +106,10 @@ module _ (p : Parts) (rules : Ruled p) where
       (λ i. header_fault p.width (n_is i) (start_is i) (m_is i)) ∙ none_from _ parts.0 in
       let items : items_fault p.width (codes_in bs) (raws_in bs) ≡ None =
       (λ i. items_fault p.width (codes_read i) (raws_read i)) ∙ none_from _ parts.1 in
-      pass (leb 12 (length bs)) (length bs) _ (le-leb 12 (length bs) (omega arith))
-      ∙ (pass (eqb (long bs 1) (length bs - 5)) 1 _ (eq-eqb (long bs 1) (length bs - 5) (long_is ∙ ap (λ (k : ℕ). k - 5) (sym len)))
+      frame_passed 7 bs _ (record { room = omega arith; version = refl; size = long_is ∙ ap (λ (k : ℕ). k - 5) (sym len) })
       ∙ (ap (λ (f : Option ℕ). or_else f (or_else (check (eqb (length bs) (size (word bs 6) (word bs 10))) 12) (or_else (items_fault p.width (codes_in bs) (raws_in bs)) None))) header
       ∙ (pass (eqb (length bs) (size (word bs 6) (word bs 10))) 12 _ (eq-eqb (length bs) (size (word bs 6) (word bs 10)) (len ∙ (λ i. size (sym n_is i) (sym m_is i))))
-      ∙ ap (λ (f : Option ℕ). or_else f None) items)))
+      ∙ ap (λ (f : Option ℕ). or_else f None) items))
 
 pub parts_back : (p : Parts) → parts_fault p ≡ None → (fault (encode p) ≡ None) × (decode (encode p) ≡ p)
 parts_back p none = let rules = ruled p none in (fault-encode p rules none, decode-encode p rules)

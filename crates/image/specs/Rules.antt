@@ -1,7 +1,7 @@
 -- The rules of a table image: the offset of the first field that breaks one. Assumes nothing.
-use Rattle.std.specs.Prelude.{ℕ, ◌+◌, ◌-◌, ◌*◌, ◌^◌, Bool, ◌&&◌, List, [], ◌∷◌, map, length, Option, ◌==◌, bit_and, nat_le, nat_lt, slice_index}
+use Rattle.std.specs.Prelude.{ℕ, ◌+◌, ◌*◌, ◌^◌, Bool, ◌&&◌, List, [], ◌∷◌, map, length, Option, ◌==◌, bit_and, nat_le, nat_lt, slice_index}
 use Rattle.ternary.specs.declared.words.StateCode.{StateCode}
-use Rattle.fields.specs.Fields.{word, long, check, or_else, first_of, each_fault}
+use Rattle.fields.specs.Fields.{word, check, or_else, first_of, each_fault, frame_fault}
 use Rattle.ternary.specs.declared.entry.Entry.{Entry}
 use Rattle.image.specs.declared.raw.RawEntry.{RawEntry}
 use Rattle.image.specs.Format.{Parts, size, raw_of, codes_in, raws_in}
@@ -50,12 +50,10 @@ parts_fault p = or_else
     (header_fault p.width (length p.codes) p.start.0 (length p.entries))
     (items_fault p.width p.codes (map raw_of p.entries))
 
--- the first field of some bytes that breaks a rule, if one does
+-- the first field of some bytes that breaks a rule, if one does: fewer than twelve bytes are refused at their number
 abbrev pub fault : List ℕ → Option ℕ
 fault bs = first_of (
-    check (nat_le 12 (length bs)) (length bs) ∷
-    check (slice_index bs 0 == 1) 0 ∷
-    check (long bs 1 == length bs - 5) 1 ∷
+    frame_fault 7 bs ∷
     header_fault (slice_index bs 5) (word bs 6) (word bs 8) (word bs 10) ∷
     check (length bs == size (word bs 6) (word bs 10)) 12 ∷
     items_fault (slice_index bs 5) (codes_in bs) (raws_in bs) ∷ [])

@@ -3,7 +3,7 @@ ghost use Rattle.ternary.specs.Refusals.{verdict};
 ghost use Rattle.image.specs.Rules.{header_fault};
 
 use ternary::refusal::Refusal;
-use ternary::words::StateNo;
+use ternary::words::{MOST_ENTRIES, MOST_STATES, StateNo};
 
 // Refuses the first field of the header after its length that breaks a rule.
 pub(crate) fn check_header(
@@ -16,11 +16,11 @@ pub(crate) fn check_header(
 {
     if width > 16 {
         Err(Refusal::Malformed(5))
-    } else if states < 1 || states > 512 {
+    } else if states < 1 || states > MOST_STATES {
         Err(Refusal::Malformed(6))
-    } else if start.0 as usize >= states {
+    } else if usize::from(start) >= states {
         Err(Refusal::Malformed(8))
-    } else if entries > 4096 {
+    } else if entries > MOST_ENTRIES {
         Err(Refusal::Malformed(10))
     } else {
         Ok(())

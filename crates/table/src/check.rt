@@ -13,13 +13,7 @@ use image::reader::{Header, unpack};
 use ternary::entry::Entry;
 use ternary::entry::matching::first_match;
 use ternary::refusal::Refusal;
-use ternary::words::{StateCode, StateNo};
-
-// The most states of an image.
-const MOST_STATES: usize = 512;
-
-// The most entries of an image.
-const MOST_ENTRIES: usize = 4096;
+use ternary::words::{MOST_ENTRIES, MOST_STATES, StateCode, StateNo};
 
 // Accepts an automaton and the bytes of an image that keep the acceptance rule, and refuses all others.
 pub fn check(automaton: Automaton<'_>, image: &[u8]) -> Result<(), Refusal>

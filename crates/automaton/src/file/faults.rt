@@ -3,29 +3,24 @@ ghost use Rattle.ternary.specs.Refusals.{refuse_or, verdict};
 ghost use Rattle.automaton.specs.File.{fault, record_fault, record_size, records_fault};
 
 use crate::file::record::Record;
+use crate::words::Header;
+use fields::frame::check_frame;
 use ternary::refusal::Refusal;
+use ternary::words::MOST_STATES;
 
 // Refuses the first field of an automaton file that breaks a rule.
 pub(crate) fn check_file(file: &[u8]) -> Result<(), Refusal>
     ensures { result ≡ verdict (fault file.now) }
 {
-    let [version, l3, l2, l1, l0, n1, n0, s1, s0, records @ ..] = file else {
-        return Err(Refusal::Malformed(file.len()));
-    };
-    if *version != 1 {
-        return Err(Refusal::Malformed(0));
-    }
-    if u32::from_be_bytes([*l3, *l2, *l1, *l0]) as usize != file.len() - 5 {
-        return Err(Refusal::Malformed(1));
-    }
-    let states = u16::from_be_bytes([*n1, *n0]);
-    if states < 1 || states > 512 {
+    check_frame(file, 4)?;
+    let Header { states, start } = Header::read(file);
+    if states < 1 || usize::from(states) > MOST_STATES {
         return Err(Refusal::Malformed(5));
     }
-    if u16::from_be_bytes([*s1, *s0]) >= states {
+    if start.0 >= states {
         return Err(Refusal::Malformed(7));
     }
-    check_records(records, states)
+    check_records(&file[9..], states)
 }
 
 // Refuses the first fault of the records: there are as many as states, and no byte after the last.

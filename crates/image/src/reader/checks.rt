@@ -9,6 +9,7 @@ use crate::item::check_in;
 use crate::raw::RawEntry;
 use crate::reader::Header;
 use crate::rules::{check_header, code_limit};
+use fields::frame::check_frame;
 use ternary::refusal::Refusal;
 use ternary::words::StateCode;
 
@@ -27,15 +28,7 @@ fn check_items(bytes: &[u8], header: Header) -> Result<(), Refusal>
 pub(crate) fn check_image(bytes: &[u8]) -> Result<(), Refusal>
     ensures { result ≡ verdict (fault bytes.now) }
 {
-    let [version, r3, r2, r1, r0, _, _, _, _, _, _, _, ..] = bytes else {
-        return Err(Refusal::Malformed(bytes.len()));
-    };
-    if *version != 1 {
-        return Err(Refusal::Malformed(0));
-    }
-    if u32::from_be_bytes([*r3, *r2, *r1, *r0]) as usize != bytes.len() - 5 {
-        return Err(Refusal::Malformed(1));
-    }
+    check_frame(bytes, 7)?;
     let header = Header::read(bytes);
     let states = header.states as usize;
     let entries = header.entries as usize;

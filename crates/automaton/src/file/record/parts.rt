@@ -1,13 +1,12 @@
-ghost use Rattle.std.specs.Prelude.{◌≡◌, ◌+◌, ◌*◌, ◌^◌, ◌<◌, ◌≤◌, cond, length, Some, None};
+ghost use Rattle.std.specs.Prelude.{◌≡◌, ◌+◌, ◌*◌, ◌^◌, ◌<◌, ◌≤◌, cond, length, map, Some, None};
 ghost use Rattle.std.specs.List.{find};
 ghost use Rattle.std.specs.Option.{option_map};
 ghost use Rattle.ternary.specs.Refusals.{verdict};
-ghost use Rattle.automaton.specs.File.{said, length_fits, record_in, in_range, next_by, range_at, ranges_in, range_fault, row_of, parts_fault};
+ghost use Rattle.automaton.specs.File.{said, length_fits, record_in, in_range, next_by, range_of, range_fault, row_of, parts_fault};
 ghost use Rattle.fields.specs.Fields.{each_fault};
 
 use crate::file::record::Record;
 use crate::words::ByteRange;
-use fields::word_at;
 use std::array;
 use ternary::refusal::Refusal;
 use ternary::words::StateNo;
@@ -24,10 +23,10 @@ impl<'a> Record<'a> {
         if 2 + len > rest.len() || len % 4 != 3 {
             return None;
         }
+        let (ranges, _) = ranges[..len - 3].as_chunks::<4>();
         Some(Record {
             class: *class,
             default: StateNo(u16::from_be_bytes([*def_hi, *def_lo])),
-            count: len / 4,
             ranges,
         })
     }
@@ -38,7 +37,7 @@ impl Record<'_> {
     pub(crate) fn size(&self) -> usize
         ensures { result ≡ 5 + 4 * length (said self.now).ranges }
     {
-        5 + 4 * self.count
+        5 + 4 * self.ranges.len()
     }
 
     // The class of the state.
@@ -59,7 +58,7 @@ impl Record<'_> {
     fn next(&self, byte: u8) -> StateNo
         ensures { result ≡ next_by (said self.now).ranges (said self.now).default byte }
     {
-        deciding(self.ranges, self.count, byte).map_or(self.default, |range| range.next)
+        deciding(self.ranges, byte).map_or(self.default, |range| range.next)
     }
 
     // Refuses the first fault of the default and the ranges, in a file of so many states, the record standing at `at`.
@@ -70,33 +69,33 @@ impl Record<'_> {
         if self.default.0 >= states {
             return Err(Refusal::Malformed(at + 3));
         }
-        // The index gives the offset of the range too.
-        for index in 0..self.count {
-            range_at(self.ranges, index).check(states, at + 5 + 4 * index)?;
+        for (index, range) in self.ranges.iter().enumerate() {
+            ByteRange::from(*range).check(states, at + 5 + 4 * index)?;
         }
         Ok(())
     }
 }
 
 // The first of some ranges that holds a byte.
-fn deciding(ranges: &[u8], count: usize, byte: u8) -> Option<ByteRange>
-    requires { 4 * count ≤ length ranges.now }
-    ensures { result ≡ find (λ r. in_range r byte) (ranges_in ranges.now count) }
+fn deciding(ranges: &[[u8; 4]], byte: u8) -> Option<ByteRange>
+    ensures { result ≡ find (λ r. in_range r byte) (map range_of ranges.now) }
 {
-    (0..count)
-        .map(|index| range_at(ranges, index))
+    ranges
+        .iter()
+        .map(|range| ByteRange::from(*range))
         .find(|range| range.holds(byte))
 }
 
-// The range at an index of the ranges of a record.
-fn range_at(ranges: &[u8], index: usize) -> ByteRange
-    requires { 4 * index + 4 ≤ length ranges.now }
-    ensures { result ≡ range_at ranges.now index }
-{
-    ByteRange {
-        low: ranges[4 * index],
-        high: ranges[4 * index + 1],
-        next: StateNo(word_at(ranges, 4 * index + 2)),
+impl From<[u8; 4]> for ByteRange {
+    ghost from_gives = { λ bytes range. range ≡ range_of bytes };
+
+    // The range that four bytes say: lowest byte, highest byte, successor.
+    fn from([low, high, n1, n0]: [u8; 4]) -> ByteRange {
+        ByteRange {
+            low,
+            high,
+            next: StateNo(u16::from_be_bytes([n1, n0])),
+        }
     }
 }
 
