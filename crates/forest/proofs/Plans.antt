@@ -1,5 +1,5 @@
 -- Plans of the forests that arrays describe, and the plan of an automaton. Assumes nothing.
-use Rattle.std.proofs.Common.{◌≡◌, ℕ, ◌<◌, ◌≤◌, List, length, map, ext_get_or, Some, None, Option, MatchOption, sym, ap, ◌∙◌, subst, arith}
+use Rattle.std.proofs.Common.{◌≡◌, ℕ, ◌<◌, ◌≤◌, List, length, map, get_or, ext_get_or, Some, None, Option, MatchOption, sym, ap, ◌∙◌, subst, arith}
 use Rattle.std.proofs.lemmas.Bool.{cond-true, cond-false, le-leb, lt-leb}
 use Rattle.std.specs.List.{range_with_len}
 use Rattle.std.proofs.lemmas.List.FromFn.{length-map-range_with_len, get_or-map-range_with_len}
@@ -68,3 +68,7 @@ module _ (a : Dfa) (p : Plan) (of : PlanOf a p) where
       ext_get_or d places (map given (range_with_len 0 a.states)) (of.0 ∙ sym (length-map-range_with_len given 0 a.states)) (λ s hs.
       get_or_from_slice_get places s (given s) d (of.1.placed s hs)
       ∙ sym (get_or-map-range_with_len given 0 a.states s s d (omega (arith, of.0)) (omega arith)))
+
+-- one of these places
+pub placement_at : (f : Forest) (n s : ℕ) (places : List Placement) (d : Placement) → places ≡ map (placement_of f) (range_with_len 0 n) → s < n → get_or places s d ≡ placement_of f s
+placement_at f n s places d are h = ap (λ (ps : List Placement). get_or ps s d) are ∙ get_or-map-range_with_len (placement_of f) 0 n s s d h (omega arith)
