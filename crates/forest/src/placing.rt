@@ -90,5 +90,5 @@ pub(crate) fn places(grove: &Grove, counts: &ByteCounts<'_>) -> ArrayVec<Place, 
     for r in 0..counts.states() {
         place_round(grove, r, &mut places);
     }
-    each_state(counts.states() as usize, |s| places[s].unwrap())
+    each_state(counts.states(), |s| places[usize::from(s)].unwrap())
 }
