@@ -81,8 +81,9 @@ pub fn plan_text(heap: Global, plan: &Plan) -> Result<String, AllocError>
     ensures { (a : Dfa) → PlanOf a plan.now → IfOk result (λ s. string_bytes s ≡ plan_text a) }
 {
     let width = plan.width();
+    let placements = plan.placements();
     let mut text = ended_line(heap, width_line(heap, width)?)?;
-    for (s, placement) in plan.placements().iter().enumerate() {
+    for (s, placement) in placements.iter().enumerate() {
         let line = state_line(heap, width, StateNo(s as u16), *placement)?;
         text.push_str(ended_line(heap, line)?.as_str())?;
     }

@@ -9,7 +9,7 @@ pub loop-s-preserved : goal.loop-s-preserved
 loop-s-preserved c a of =
     let f = forest_of a in
     let s = c.loop-s.s in
-    let given = c.placements-placement-items in
+    let given = c.placements-placements in
     let wide : c.width-width.result ≡ f.width = c.width-width.ensures ∙ of.1.wide in
     let is = placement_at f a.states s given.result.now _ (given.ensures.placed a of) (omega (arith, c.loop-s-test.true, of.0, ap length given.ensures.value)) in
     let line = c.in_ok-line.ensures ∙ (λ i. state_text (wide i) s (is i)) in
