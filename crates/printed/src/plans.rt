@@ -7,7 +7,7 @@ ghost use Rattle.printed.specs.Lines.{width_text, parent_text, place_text, state
 
 use crate::bits::{code_text, word_text};
 use crate::reading::SmallAutomaton;
-use crate::refused::refusal_line;
+use crate::refused::{ended_line, refusal_line};
 use forest::plan::{Placement, Plan};
 use std::alloc::{AllocError, Global};
 use ternary::refusal::Refusal;
@@ -96,11 +96,4 @@ fn placed_line(heap: Global, plan: &Plan, state: StateNo) -> Result<String, Allo
         Some(placement) => ended_line(heap, state_line(heap, plan.width(), state, placement)?),
         None => Ok(String::new(heap)),
     }
-}
-
-// A line and the line feed that ends it.
-fn ended_line(heap: Global, line: String) -> Result<String, AllocError>
-    ensures { IfOk result (λ s. string_bytes s ≡ ended (string_bytes line)) }
-{
-    format!(in heap; "{line}\n")
 }
