@@ -3,7 +3,7 @@ ghost use Rattle.std.specs.Prelude.{◌≤◌, length, IfOk, string_bytes};
 ghost use Rattle.printed.specs.Images.{FileImage, FileTable};
 ghost use Rattle.printed.specs.Lines.{small_answer};
 
-use crate::reading::{SMALL_STATES, SmallAutomaton};
+use crate::reading::{SMALL_WORK, SmallAutomaton};
 use crate::refused::{ended_line, refusal_line};
 use crate::tables::image_text;
 use builder::build::build;
@@ -11,9 +11,6 @@ use image::reader::{Image, unpack};
 use std::alloc::{AllocError, Global};
 use ternary::refusal::Refusal;
 use ternary::words::{MOST_ENTRIES, MOST_STATES};
-
-// The numbers of working memory that suffice for a small automaton.
-const WORK: usize = SMALL_STATES * SMALL_STATES + 8192;
 
 // The bytes of the largest image.
 const LARGEST_IMAGE: usize = 12 + 2 * MOST_STATES + 9 * MOST_ENTRIES;
@@ -36,7 +33,7 @@ fn image_of<'a>(file: &[u8], out: &'a mut [u8]) -> Result<Image<'a>, Refusal>
     ensures { FileImage file.now (small_answer file.now) result }
 {
     let small = SmallAutomaton::read(file)?;
-    let mut work = [0; WORK];
+    let mut work = [0; SMALL_WORK];
     let size = build(small.automaton(), &mut work, out)?;
     unpack(&out[..size])
 }
