@@ -6,3 +6,4 @@ mod reading;
 pub mod refused;
 pub mod summary;
 pub mod tables;
+pub mod tabulating;

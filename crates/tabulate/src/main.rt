@@ -1,7 +1,7 @@
 #![tactic(auto)]
 
-// Prints a line for the automaton file on standard input.
-use printed::summary::summary_line;
+// Prints the table of the automaton file on standard input.
+use printed::tabulating::tabulated;
 use std::io;
 use std::io::Read;
 
@@ -11,5 +11,5 @@ const MOST_READ: u64 = 65_537;
 fn main(rt: HostRuntime) -> io::Result<()> {
     let mut file = Vec::new(rt.alloc());
     rt.stdin().take(MOST_READ).read_to_end(&mut file)?;
-    rt.println(summary_line(rt.alloc(), file.as_slice())?)
+    rt.print(tabulated(rt.alloc(), file.as_slice())?)
 }

@@ -4,7 +4,7 @@ ghost use Rattle.automaton.specs.Limits.{handed};
 ghost use Rattle.printed.specs.Lines.{small_answer};
 ghost use Rattle.printed.specs.Small.{held, ReadSmall};
 
-use crate::reading::{MOST_STATES, MOST_SUCCESSORS, SmallAutomaton};
+use crate::reading::{SMALL_STATES, SMALL_SUCCESSORS, SmallAutomaton};
 use automaton::file::read;
 use automaton::words::Automaton;
 use ternary::refusal::Refusal;
@@ -22,8 +22,8 @@ impl SmallAutomaton {
         if file.len() > LONGEST_FILE {
             return Err(Refusal::OutputTooShort);
         }
-        let mut successors = [StateNo(0); MOST_SUCCESSORS];
-        let mut classes = [0; MOST_STATES];
+        let mut successors = [StateNo(0); SMALL_SUCCESSORS];
+        let mut classes = [0; SMALL_STATES];
         let header = read(file, &mut successors, &mut classes)?;
         Ok(SmallAutomaton {
             header,
