@@ -1,5 +1,5 @@
 -- What the steps of a check answer, of codes and entries in memory. Assumes nothing.
-use Rattle.std.specs.Prelude.{ℕ, ◌<◌, List, drop, Some, None, Option, slice_index_or}
+use Rattle.std.specs.Prelude.{ℕ, ◌<◌, Bool, ◌==◌, bit_and, List, drop, Some, None, Option, slice_index_or}
 use Rattle.ternary.specs.declared.entry.Entry.{Entry}
 use Rattle.ternary.specs.declared.words.StateCode.{StateCode}
 use Rattle.ternary.specs.declared.words.StateNo.{StateNo}
@@ -26,3 +26,7 @@ WrongPlace a code es (Some place) = FirstWrong a code es place.0.0 place.1
 -- the items of an image's list that are still to be read
 abbrev pub unread : {X : Type 0} → (Parts → List X) → Items X → List X
 unread list items = drop items.next (list (parts_of items.image))
+
+-- an entry matches a code, whatever the byte
+abbrev pub accepts : ℕ → Entry → Bool
+accepts code e = bit_and code e.code_mask == e.code_value

@@ -1,9 +1,9 @@
-ghost use Rattle.std.specs.Prelude.{◌≡◌, ◌≤◌, drop, length, is_ok, Decides};
+ghost use Rattle.std.specs.Prelude.{◌≡◌, ◌≤◌, drop, filter, length, is_ok, Decides};
 ghost use Rattle.automaton.specs.Limits.{handed};
 ghost use Rattle.automaton.specs.Sound.{meant};
 ghost use Rattle.image.specs.Calls.{parts_of};
 ghost use Rattle.table.specs.Acceptance.{Acceptable, Checked, OnlyAnswer, Right};
-ghost use Rattle.table.specs.Steps.{listed, unread, WrongByte, WrongPlace};
+ghost use Rattle.table.specs.Steps.{accepts, listed, unread, WrongByte, WrongPlace};
 
 use arrayvec::ArrayVec;
 use automaton::sound::SoundAutomaton;
@@ -59,12 +59,20 @@ fn taken<T: Listed + Default, const MOST: usize>(items: Items<'_, T>) -> ArrayVe
     list
 }
 
+// Whether an entry matches a code.
+fn accepts(entry: Entry, code: StateCode) -> bool
+    ensures { result ≡ accepts code.0 entry }
+{
+    code.0 & entry.code_mask() == entry.code_value()
+}
+
 // An automaton, and the codes of its states and the entries that have to carry it.
 #[derive(Clone, Copy)]
 struct Table<'a> {
     automaton: SoundAutomaton<'a>,
     codes: &'a [StateCode],
     entries: &'a [Entry],
+    ghost few: { length entries.now ≤ 4096 },
 }
 
 impl Table<'_> {
@@ -75,14 +83,41 @@ impl Table<'_> {
         // The answer is that of the loop over bytes, which stays for the reason given there.
         for number in 0..self.automaton.states() {
             let state = StateNo(number);
-            if let Some(byte) = self.first_wrong_byte(state) {
+            if let Some(byte) = self.first_wrong_of(state) {
                 return Some((state, byte));
             }
         }
         None
     }
 
-    // The lowest byte at which the entries do not carry a state.
+    // The lowest byte at which the entries do not carry a state. They are looked through once for those that match its code,
+    // so that a search for a byte meets these alone.
+    fn first_wrong_of(&self, state: StateNo) -> Option<u8>
+        ensures { WrongByte (meant self.now.automaton) (listed self.now.codes.now) self.now.entries.now state.0 result }
+    {
+        let entries = self.entries_for(self.code(state));
+        let own = Table {
+            automaton: self.automaton,
+            codes: self.codes,
+            entries: entries.as_slice(),
+        };
+        own.first_wrong_byte(state)
+    }
+
+    // The entries that match a code, in order, whatever their byte.
+    fn entries_for(&self, code: StateCode) -> ArrayVec<Entry, MOST_ENTRIES>
+        ensures { result.items ≡ filter (accepts code.0) self.now.entries.now }
+    {
+        let mut own = ArrayVec::new();
+        for entry in self.entries {
+            if accepts(*entry, code) {
+                own.push(*entry);
+            }
+        }
+        own
+    }
+
+    // The lowest byte at which the entries do not carry a state, by a search among all of them.
     fn first_wrong_byte(&self, state: StateNo) -> Option<u8>
         ensures { WrongByte (meant self.now.automaton) (listed self.now.codes.now) self.now.entries.now state.0 result }
     {

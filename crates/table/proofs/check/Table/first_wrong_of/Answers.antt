@@ -1,0 +1,18 @@
+use Rattle.std.proofs.Common.{◌≡◌, List, filter, ap, ◌∙◌, subst}
+use Rattle.ternary.specs.declared.entry.Entry.{Entry}
+use Rattle.ternary.specs.declared.words.StateCode.{StateCode}
+use Rattle.automaton.specs.Sound.{meant}
+use Rattle.table.specs.Steps.{accepts, listed, WrongByte}
+use Rattle.table.proofs.Sorted.{wrong_byte}
+use Rattle.table.proofs.check.Table.first_wrong_of.Goals as goal
+
+pub returns : goal.returns
+returns c =
+    let a = meant c.args.self.now.automaton in
+    let code = listed c.args.self.now.codes.now in
+    let es = c.args.self.now.entries.now in
+    let s = c.args.state.0 in
+    let found = c.first_wrong_byte.result in
+    let own : c.as_slice.result.now ≡ filter (accepts (code s).0) es =
+    c.as_slice.ensures.value ∙ (c.entries_for-entries.ensures ∙ ap (λ (x : StateCode). filter (accepts x.0) es) c.code.ensures) in
+    wrong_byte a code es s found (subst (λ (l : List Entry). WrongByte a code l s found) own c.first_wrong_byte.ensures)
