@@ -1,0 +1,4 @@
+mod automata;
+mod plain;
+
+fn main() {}
