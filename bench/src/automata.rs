@@ -1,6 +1,6 @@
 //! The automata, tables and streams that are measured. All are the same in each run.
 
-use crate::plain::words::{Automaton, Entry, MOST_STATES};
+use crate::plain::words::{Automaton, Entry};
 use std::collections::{BTreeMap, VecDeque};
 
 /// An automaton that owns its buffers.
@@ -168,12 +168,6 @@ pub fn text(length: usize) -> Vec<u8> {
     text
 }
 
-/// Bytes at random.
-pub fn noise(length: usize) -> Vec<u8> {
-    let mut random = Random::new(11);
-    (0..length).map(|_| random.below(256) as u8).collect()
-}
-
 /// A stream that an automaton goes astray on: at each state a byte that leads to another state than 0, where there is one.
 pub fn astray(automaton: &Automaton<'_>, length: usize) -> Vec<u8> {
     let mut random = Random::new(13);
@@ -198,5 +192,3 @@ pub fn one_code_each(entries: usize) -> Vec<Entry> {
         .map(|i| Entry::new(i, 0xffff, 0, 0, i ^ 0x1234, (i % 251) as u8))
         .collect()
 }
-
-const _: () = assert!(MOST_STATES == 512);

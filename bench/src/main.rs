@@ -1,4 +1,18 @@
-mod automata;
-mod plain;
+//! Times the proved calls beside a plain Rust implementation of the same calls, on the same inputs and in one run. For each
+//! measurement both must first give the same answer.
 
-fn main() {}
+mod automata;
+mod measures;
+mod ours;
+mod plain;
+mod report;
+mod rounds;
+mod timing;
+
+fn main() {
+    measures::builds();
+    measures::checks();
+    measures::feeds();
+    measures::searches();
+    measures::growth();
+}
