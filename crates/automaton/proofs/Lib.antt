@@ -1,3 +1,4 @@
 pub mod Records
 pub mod Filetrip
 pub mod Reading
+pub mod Rows

@@ -4,5 +4,6 @@ pub mod Canonical
 pub mod Ruling
 pub mod Standing
 pub mod Collecting
+mod Heights
 pub mod Answering
 pub mod OneBuild

@@ -27,10 +27,9 @@ impl Planned<'_> {
     fn gather_level(&self, depth: usize, gathered: &mut Gathered) -> Result<(), Refusal>
         ensures { Gathers gathered.old.items gathered.new.items (level_over (meant self.now.automaton) (lists_of (meant self.now.automaton)) depth (meant self.now.automaton).states) result }
     {
-        for s in 0..self.automaton.states() {
-            let state = StateNo(s);
-            if self.place_of(state).depth as usize == depth {
-                self.gather_state(state, gathered)?;
+        for (s, placement) in self.plan.placements().iter().enumerate() {
+            if placement.depth as usize == depth {
+                self.gather_state(StateNo(s as u16), gathered)?;
             }
         }
         Ok(())

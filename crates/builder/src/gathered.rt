@@ -5,9 +5,7 @@ ghost use Rattle.builder.specs.Gathering.{Gathers};
 use arrayvec::ArrayVec;
 use ternary::entry::Entry;
 use ternary::refusal::Refusal;
-
-// The most entries that a table may have.
-const MOST_ENTRIES: usize = 4096;
+use ternary::words::MOST_ENTRIES;
 
 // The entries so far.
 pub(crate) type Gathered = ArrayVec<Entry, MOST_ENTRIES>;

@@ -12,30 +12,25 @@ use arrayvec::ArrayVec;
 use forest::plan::Placement;
 use prefix::word::PrefixWord;
 use ternary::entry::Entry;
-use ternary::words::{StateCode, StateNo};
-
-// The most states of an automaton.
-const MOST_STATES: usize = 512;
+use ternary::words::{MOST_STATES, StateCode, StateNo};
 
 impl Planned<'_> {
-    // The place of a state, and no parent and zeros for a number that no state has.
+    // The place of a state.
     pub(crate) fn place_of(&self, state: StateNo) -> Placement
-        ensures { state.0 < (meant self.now.automaton).states → result ≡ placement_of (forest_of (meant self.now.automaton)) state.0 }
+        requires { state.0 < (meant self.now.automaton).states }
+        ensures { result ≡ placement_of (forest_of (meant self.now.automaton)) state.0 }
     {
-        self.plan.placement(state).unwrap_or_default()
+        self.plan.placements()[usize::from(state)]
     }
 
     // One more than the largest depth of a state.
     pub(crate) fn height(&self) -> usize
         ensures { result ≡ height (forest_of (meant self.now.automaton)) (meant self.now.automaton).states }
     {
-        let mut height = 0;
-        // `map` and `fold` are not proved yet over states that are asked for by their numbers.
-        for s in 0..self.automaton.states() {
-            let below = self.place_of(StateNo(s)).depth as usize + 1;
-            height = height.max(below);
-        }
-        height
+        let placements = self.plan.placements().iter();
+        placements
+            .map(|placement| placement.depth as usize + 1)
+            .fold(0, usize::max)
     }
 
     // The codes of the states, in state order.
@@ -43,8 +38,9 @@ impl Planned<'_> {
         ensures { result.items ≡ map (code_of (meant self.now.automaton)) (range_with_len 0 (meant self.now.automaton).states) }
     {
         let mut codes = ArrayVec::new();
-        for s in 0..self.automaton.states() {
-            codes.push(self.place_of(StateNo(s)).code);
+        // A vector of fixed capacity has no `collect` without an allocator.
+        for placement in self.plan.placements() {
+            codes.push(placement.code);
         }
         codes
     }

@@ -1,7 +1,9 @@
 -- Plans of the forests that arrays describe, and the plan of an automaton. Assumes nothing.
-use Rattle.std.proofs.Common.{◌≡◌, ℕ, ◌<◌, ◌≤◌, List, length, Some, None, Option, MatchOption, sym, ap, ◌∙◌, subst, arith}
+use Rattle.std.proofs.Common.{◌≡◌, ℕ, ◌<◌, ◌≤◌, List, length, map, get_or, ext_get_or, Some, None, Option, MatchOption, sym, ap, ◌∙◌, subst, arith}
 use Rattle.std.proofs.lemmas.Bool.{cond-true, cond-false, le-leb, lt-leb}
-use Rattle.std.proofs.lemmas.Option.{slice_get_past}
+use Rattle.std.specs.List.{range_with_len}
+use Rattle.std.proofs.lemmas.List.FromFn.{length-map-range_with_len, get_or-map-range_with_len}
+use Rattle.std.proofs.lemmas.Option.{slice_get_past, get_or_from_slice_get}
 use Rattle.automaton.specs.Runs.{Dfa}
 use Rattle.forest.specs.Deferment.{joined_forest, loose_forest, forest_of}
 use Rattle.forest.specs.Forest.{Forest, code, mask}
@@ -56,3 +58,17 @@ module _ (a : Dfa) (p : Plan) (of : PlanOf a p) where
   -- no other number has a place
   pub placement_none : (s : ℕ) → a.states ≤ s → placement_in p s ≡ None
   placement_none s h = slice_get_past p.places.items s (omega (arith, of.0))
+
+  -- the places of its states are those that the forest gives, in state order
+  pub placements_are : p.places.items ≡ map (placement_of (forest_of a)) (range_with_len 0 a.states)
+  placements_are =
+      let places = p.places.items in
+      let given = placement_of (forest_of a) in
+      let d = given 0 in
+      ext_get_or d places (map given (range_with_len 0 a.states)) (of.0 ∙ sym (length-map-range_with_len given 0 a.states)) (λ s hs.
+      get_or_from_slice_get places s (given s) d (of.1.placed s hs)
+      ∙ sym (get_or-map-range_with_len given 0 a.states s s d (omega (arith, of.0)) (omega arith)))
+
+-- one of these places
+pub placement_at : (f : Forest) (n s : ℕ) (places : List Placement) (d : Placement) → places ≡ map (placement_of f) (range_with_len 0 n) → s < n → get_or places s d ≡ placement_of f s
+placement_at f n s places d are h = ap (λ (ps : List Placement). get_or ps s d) are ∙ get_or-map-range_with_len (placement_of f) 0 n s s d h (omega arith)

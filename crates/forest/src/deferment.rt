@@ -8,9 +8,13 @@ use crate::placing::{Place, places};
 use crate::sharing::ByteCounts;
 use arrayvec::ArrayVec;
 use automaton::sound::SoundAutomaton;
+use ternary::words::MOST_STATES;
 
 // The place of each state of an automaton.
-pub(crate) fn defer(automaton: SoundAutomaton<'_>, counts: &mut [u32]) -> ArrayVec<Place, 512>
+pub(crate) fn defer(
+    automaton: SoundAutomaton<'_>,
+    counts: &mut [u32],
+) -> ArrayVec<Place, MOST_STATES>
     requires room { (meant automaton).states * (meant automaton).states ≤ length counts.old }
     ensures { AllInPlace (meant automaton.entry) result.items }
 {

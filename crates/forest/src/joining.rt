@@ -4,7 +4,7 @@ ghost use Rattle.forest.specs.Labels.{label, Numbered};
 
 use crate::sharing::ByteCounts;
 use std::array;
-use ternary::words::StateNo;
+use ternary::words::{MOST_STATES, StateNo};
 
 // Two states that are joined.
 #[derive(Clone, Copy)]
@@ -17,8 +17,8 @@ pub(crate) struct Join {
 // the number of the tree that it ended.
 #[derive(Drop)]
 pub(crate) struct Grove {
-    pub(crate) labels: [StateNo; 512],
-    pub(crate) joins: [Option<Join>; 512],
+    pub(crate) labels: [StateNo; MOST_STATES],
+    pub(crate) joins: [Option<Join>; MOST_STATES],
     ghost numbered: { Numbered labels joins },
 }
 
@@ -34,7 +34,7 @@ impl Grove {
     {
         Grove {
             labels: array::from_fn(|k| StateNo(k as u16)),
-            joins: [None; 512],
+            joins: [None; MOST_STATES],
         }
     }
 

@@ -10,7 +10,7 @@ use crate::codes::each_state;
 use crate::joining::Grove;
 use crate::sharing::ByteCounts;
 use arrayvec::ArrayVec;
-use ternary::words::StateNo;
+use ternary::words::{MOST_STATES, StateNo};
 
 // Where a state stands: how many joins lead to its root, and the state that it defers to, unless it is a root.
 #[derive(Clone, Copy, Default)]
@@ -67,11 +67,11 @@ fn is_beaten(grove: &Grove, counts: &ByteCounts<'_>, s: StateNo) -> bool
 }
 
 // Places the roots, and no other state yet.
-fn roots(grove: &Grove, counts: &ByteCounts<'_>) -> [Option<Place>; 512]
+fn roots(grove: &Grove, counts: &ByteCounts<'_>) -> [Option<Place>; MOST_STATES]
     ensures { let a = meant counts.now.automaton in
         (s : ℕ) → s < a.states → slice_index_or result s None ≡ (if beaten_in grove.now.labels a s then None else Some root_place) }
 {
-    let mut places = [None; 512];
+    let mut places = [None; MOST_STATES];
     for (s, place) in places[..counts.states() as usize].iter_mut().enumerate() {
         *place = (!is_beaten(grove, counts, StateNo(s as u16))).then_some(Place {
             depth: 0,
@@ -82,7 +82,7 @@ fn roots(grove: &Grove, counts: &ByteCounts<'_>) -> [Option<Place>; 512]
 }
 
 // The place of each state of an automaton in its trees.
-pub(crate) fn places(grove: &Grove, counts: &ByteCounts<'_>) -> ArrayVec<Place, 512>
+pub(crate) fn places(grove: &Grove, counts: &ByteCounts<'_>) -> ArrayVec<Place, MOST_STATES>
     requires grown { trees_in grove.now ≡ trees_of (meant counts.now.automaton) }
     ensures { AllInPlace (meant counts.now.automaton) result.items }
 {
@@ -90,5 +90,5 @@ pub(crate) fn places(grove: &Grove, counts: &ByteCounts<'_>) -> ArrayVec<Place, 
     for r in 0..counts.states() {
         place_round(grove, r, &mut places);
     }
-    each_state(counts.states() as usize, |s| places[s].unwrap())
+    each_state(counts.states(), |s| places[usize::from(s)].unwrap())
 }

@@ -1,11 +1,12 @@
 // The plan of an automaton, and what it hands out.
-ghost use Rattle.std.specs.Prelude.{◌≡◌, ◌<◌, Some};
+ghost use Rattle.std.specs.Prelude.{◌≡◌, ◌<◌, ◌≤◌, length, map, Some};
+ghost use Rattle.std.specs.List.{range_with_len};
 ghost use Rattle.automaton.specs.Runs.{Dfa};
 ghost use Rattle.forest.specs.Deferment.{forest_of};
 ghost use Rattle.forest.specs.Plan.{PlanOf, states_of, placement_of, placement_in};
 
 use arrayvec::ArrayVec;
-use ternary::words::{StateCode, StateNo};
+use ternary::words::{MOST_STATES, StateCode, StateNo};
 
 mod making;
 
@@ -23,7 +24,7 @@ pub struct Placement {
 #[derive(Drop)]
 pub struct Plan {
     pub(crate) width: u8,
-    pub(crate) places: ArrayVec<Placement, 512>,
+    pub(crate) places: ArrayVec<Placement, MOST_STATES>,
 }
 
 impl Plan {
@@ -39,6 +40,15 @@ impl Plan {
         ensures { result ≡ self.now.width }
     {
         self.width
+    }
+
+    // The places of the states, in state order.
+    pub fn placements(&self) -> &[Placement]
+        ensures value { result.now ≡ self.now.places.items }
+        ensures few { length result.now ≤ 512 }
+        ensures placed { (a : Dfa) → PlanOf a self.now → result.now ≡ map (placement_of (forest_of a)) (range_with_len 0 a.states) }
+    {
+        &self.places
     }
 
     // The place of a state; none for a number that no state has.

@@ -189,7 +189,7 @@ module _ (p : Prefix) (h : p.bits < 8) (w0 w1 w2 : Subtrees) (i j : ℕ) (lower 
     high_says : Says w2.candidates.items high r
     high_says = stands_says w2.nodes.items w2.candidates.items j r high at_high high_stands
 
-    pub halves_small : (low.base < 2 ^ 16) × (high.base < 2 ^ 16) × (low.least < 2 ^ 16) × (high.least < 2 ^ 16)
+    pub halves_small : (low.base ≤ 256) × (high.base ≤ 256) × (low.least ≤ 256) × (high.least ≤ 256)
     halves_small =
         omega (
           arith,

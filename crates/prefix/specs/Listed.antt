@@ -20,6 +20,10 @@ stated w = record { bits = w.bits; value = w.value; next = state_no w.next }
 abbrev pub word_for : Prefix → StateNo → PrefixWord StateNo
 word_for p next = record { bits = p.bits; value = p.value; next = next }
 
+-- the prefix of all bytes
+abbrev pub all_bytes : Prefix
+all_bytes = record { bits = 0; value = 0 }
+
 -- the two prefixes that are one bit longer
 abbrev pub low_half : Prefix → Prefix
 low_half p = record { bits = p.bits + 1; value = 2 * p.value }

@@ -3,12 +3,12 @@ ghost use Rattle.std.specs.Prelude.{◌≡◌, ◌+◌, ◌-◌, ◌*◌, ◌^�
 ghost use Rattle.arrayvec.specs.ArrayVec.{array_vec_len};
 ghost use Rattle.prefix.specs.Tree.{leaf, common, either, extra};
 ghost use Rattle.prefix.specs.States.{flags};
-ghost use Rattle.prefix.specs.Listed.{numbered, tree_at};
+ghost use Rattle.prefix.specs.Listed.{numbered, all_bytes, tree_at};
 ghost use Rattle.prefix.specs.Parts.{Inside, part_of};
-ghost use Rattle.prefix.specs.Subtrees.{Says, Joined, Added, room as states_at_most};
+ghost use Rattle.prefix.specs.Subtrees.{Says, Joined, Stands, Added, room as states_at_most};
 
 use crate::sets::{Part, States, append_common, append_part};
-use crate::trees::{Halves, Node, Prefix, Subtrees};
+use crate::trees::{Halves, Node, Prefix, Row, Subtrees};
 
 // Appends the candidates of a subtree from those of its halves: those in common, or all of both where there are none.
 // Answers whether there are none.
@@ -31,15 +31,15 @@ fn append_candidates(states: &mut States, low: Part, high: Part) -> bool
 impl Node {
     // The node of a whole from those of its halves. Its candidates are appended to the states.
     fn of_halves(low: Node, high: Node, halves: Halves, states: &mut States) -> Node
-        requires small { (low.base < 2 ^ 16) × (high.base < 2 ^ 16) × (low.least < 2 ^ 16) × (high.least < 2 ^ 16) }
+        requires small { (low.base ≤ 256) × (high.base ≤ 256) × (low.least ≤ 256) × (high.least ≤ 256) }
         requires inside { Inside (array_vec_len states.old) low.candidates × Inside (array_vec_len states.old) high.candidates }
         requires room { array_vec_len states.old + (low.candidates.end - low.candidates.first) + (high.candidates.end - high.candidates.first) ≤ 2304 }
         ensures joined { Joined states.old.items states.new.items low high result }
         ensures halves { result.halves ≡ Some halves }
     {
-        let first = states.len();
+        let first = states.len() as u16;
         let apart = append_candidates(states, low.candidates, high.candidates);
-        let base = low.base + high.base + u32::from(apart);
+        let base = low.base + high.base + u16::from(apart);
         let split = low.least + high.least;
         Node {
             base,
@@ -47,10 +47,22 @@ impl Node {
             bare: split <= base + 1,
             candidates: Part {
                 first,
-                end: states.len(),
+                end: states.len() as u16,
             },
             halves: Some(halves),
         }
+    }
+}
+
+impl<'a> Subtrees<'a> {
+    // The subtrees of a row, and the number of the node for all bytes.
+    pub(crate) fn of(row: Row<'a>) -> (Self, u16)
+        ensures row { result.0.row ≡ row.entry }
+        ensures root { Stands result.0.nodes.items result.0.candidates.items result.1 (tree_at result.0.row all_bytes) }
+    {
+        let mut subtrees = Subtrees::new(row);
+        let root = subtrees.add(Prefix::ALL);
+        (subtrees, root)
     }
 }
 
@@ -62,12 +74,12 @@ impl Subtrees<'_> {
         ensures alone { result.halves ≡ None }
         ensures rest { (self.new.row ≡ self.old.row) × (self.new.nodes ≡ self.old.nodes) × (self.new.candidates.items ≡ self.old.candidates.items ++ numbered self.old.row.successors.now value ∷ []) }
     {
-        let first = self.candidates.len();
+        let first = self.candidates.len() as u16;
         self.candidates.push(self.row.successors[value as usize].0);
         let deferrable = self.row.deferrable[value as usize];
         Node {
             base: 0,
-            least: u32::from(!deferrable),
+            least: u16::from(!deferrable),
             bare: deferrable,
             candidates: Part {
                 first,
@@ -78,27 +90,27 @@ impl Subtrees<'_> {
     }
 
     // The node of a number.
-    pub(crate) fn node(&self, number: usize) -> Node
+    pub(crate) fn node(&self, number: u16) -> Node
         requires { number < array_vec_len self.now.nodes }
         ensures { slice_get self.now.nodes.items number ≡ Some result }
     {
-        self.nodes[number]
+        self.nodes[number as usize]
     }
 
     // Adds a node, and answers its number.
-    fn push(&mut self, node: Node) -> usize
+    fn push(&mut self, node: Node) -> u16
         requires { array_vec_len self.old.nodes < 511 }
         ensures number { result ≡ array_vec_len self.old.nodes }
         ensures nodes { self.new.nodes.items ≡ self.old.nodes.items ++ node ∷ [] }
         ensures rest { (self.new.row ≡ self.old.row) × (self.new.candidates ≡ self.old.candidates) }
     {
-        let number = self.nodes.len();
+        let number = self.nodes.len() as u16;
         self.nodes.push(node);
         number
     }
 
     // Adds the subtree of a prefix, and answers the number of its node.
-    pub(crate) fn add(&mut self, prefix: Prefix) -> usize
+    fn add(&mut self, prefix: Prefix) -> u16
         requires inside { (prefix.bits ≤ 8) × (prefix.value < 2 ^ prefix.bits) }
         requires room { (array_vec_len self.old.nodes + 2 * 2 ^ (8 - prefix.bits) ≤ 512) × (array_vec_len self.old.candidates + states_at_most (8 - prefix.bits) ≤ 2304) }
         ensures { Added self.old self.new result (tree_at self.old.row prefix) }

@@ -30,7 +30,7 @@ impl Node {
         if self.bare_under(states, above) {
             None
         } else {
-            Some(StateNo(states[self.candidates.first]))
+            Some(StateNo(states[self.candidates.first as usize]))
         }
     }
 }
@@ -55,7 +55,7 @@ impl Subtrees<'_> {
     // Appends a shortest list for the bytes of a prefix, below a word that decides `above` where there is one.
     pub(crate) fn emit(
         &self,
-        number: usize,
+        number: u16,
         prefix: Prefix,
         above: Option<StateNo>,
         words: &mut ArrayVec<PrefixWord<StateNo>, 256>,

@@ -11,8 +11,8 @@ pub(crate) type States = ArrayVec<u16, 2304>;
 // Some of the states that stand one after another: those from `first` on, up to `end`.
 #[derive(Clone, Copy, Default)]
 pub(crate) struct Part {
-    pub first: usize,
-    pub end: usize,
+    pub first: u16,
+    pub end: u16,
 }
 
 impl Part {
@@ -21,7 +21,7 @@ impl Part {
         requires { Inside (length states.now) self }
         ensures { result.now ≡ part_of states.now self }
     {
-        &states[self.first..self.end]
+        &states[self.first as usize..self.end as usize]
     }
 }
 
@@ -33,7 +33,7 @@ pub(crate) fn append_common(states: &mut States, low: Part, high: Part)
 {
     // each is read from the list that it is appended to, so no slice of that list is at hand
     for i in low.first..low.end {
-        let state = states[i];
+        let state = states[i as usize];
         if high.of(states).contains(&state) {
             states.push(state);
         }
@@ -47,7 +47,7 @@ pub(crate) fn append_part(states: &mut States, part: Part)
     ensures { states.new.items ≡ states.old.items ++ part_of states.old.items part }
 {
     for i in part.first..part.end {
-        let state = states[i];
+        let state = states[i as usize];
         states.push(state);
     }
 }

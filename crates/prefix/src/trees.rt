@@ -44,17 +44,17 @@ impl Prefix {
 // The nodes of the two halves of a subtree.
 #[derive(Clone, Copy, Default)]
 pub(crate) struct Halves {
-    pub low: usize,
-    pub high: usize,
+    pub low: u16,
+    pub high: u16,
 }
 
 // What a subtree of a row costs in words.
 #[derive(Clone, Copy, Default)]
 pub(crate) struct Node {
     // the cost below a word that covers the subtree and decides one of the candidates; any other decision costs one more
-    pub base: u32,
+    pub base: u16,
     // the cost below no word
-    pub least: u32,
+    pub least: u16,
     // whether a list below no word is shortest without a word that covers the subtree
     pub bare: bool,
     pub candidates: Part,

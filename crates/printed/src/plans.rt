@@ -1,8 +1,7 @@
 // A plan as it is printed: who defers to whom, and the codes and shadows of the states.
-ghost use Rattle.std.specs.Prelude.{◌≡◌, ◌<◌, IfOk, string_bytes};
+ghost use Rattle.std.specs.Prelude.{◌≡◌, IfOk, string_bytes};
 ghost use Rattle.automaton.specs.Runs.{Dfa};
-ghost use Rattle.forest.specs.Deferment.{forest_of};
-ghost use Rattle.forest.specs.Plan.{PlanOf, placement_of};
+ghost use Rattle.forest.specs.Plan.{PlanOf};
 ghost use Rattle.printed.specs.Lines.{width_text, parent_text, place_text, state_text, ended, plan_text, small_answer, FilePlan, file_text};
 
 use crate::bits::{code_text, word_text};
@@ -81,21 +80,14 @@ fn parent_text(heap: Global, parent: Option<StateNo>) -> Result<String, AllocErr
 pub fn plan_text(heap: Global, plan: &Plan) -> Result<String, AllocError>
     ensures { (a : Dfa) → PlanOf a plan.now → IfOk result (λ s. string_bytes s ≡ plan_text a) }
 {
-    let mut text = ended_line(heap, width_line(heap, plan.width())?)?;
-    for s in 0..plan.states() {
-        text.push_str(placed_line(heap, plan, StateNo(s))?.as_str())?;
+    let width = plan.width();
+    let placements = plan.placements();
+    let mut text = ended_line(heap, width_line(heap, width)?)?;
+    for (s, placement) in placements.iter().enumerate() {
+        let line = state_line(heap, width, StateNo(s as u16), *placement)?;
+        text.push_str(ended_line(heap, line)?.as_str())?;
     }
     Ok(text)
-}
-
-// The line of a state of a plan, and nothing for a number that no state has.
-fn placed_line(heap: Global, plan: &Plan, state: StateNo) -> Result<String, AllocError>
-    ensures { (a : Dfa) → PlanOf a plan.now → state.0 < a.states → IfOk result (λ s. string_bytes s ≡ ended (state_text (forest_of a).width state.0 (placement_of (forest_of a) state.0))) }
-{
-    match plan.placement(state) {
-        Some(placement) => ended_line(heap, state_line(heap, plan.width(), state, placement)?),
-        None => Ok(String::new(heap)),
-    }
 }
 
 // A line and the line feed that ends it.

@@ -1,5 +1,5 @@
 // What is asked of an automaton that keeps its limits.
-ghost use Rattle.std.specs.Prelude.{◌≡◌, ◌+◌, ◌*◌, ◌<◌, slice_range};
+ghost use Rattle.std.specs.Prelude.{◌≡◌, ℕ, ◌+◌, ◌*◌, ◌<◌, slice_index_or, slice_range};
 ghost use Rattle.automaton.specs.Limits.{handed};
 ghost use Rattle.automaton.specs.Sound.{meant};
 
@@ -38,6 +38,15 @@ impl<'a> SoundAutomaton<'a> {
         let start = 256 * usize::from(state);
         let row = self.automaton.successors.get(start..start + 256);
         row.unwrap_or(&[])
+    }
+
+    // The successors of a state as an array; state 0 throughout for a number that no state has.
+    pub fn successors(&self, state: StateNo) -> &'a [StateNo; 256]
+        ensures each { (byte : ℕ) → byte < 256 → slice_index_or result.now byte (record { 0 = 0 }) ≡ record { 0 = (meant self.now).next state.0 byte } }
+        ensures row { state.0 < (meant self.now).states → result.now ≡ slice_range (handed self.now.automaton).successors (256 * state.0) (256 * state.0 + 256) }
+    {
+        let row = self.row(state).first_chunk();
+        row.unwrap_or(&[StateNo(0); 256])
     }
 
     // The class of a state; no mark for a number that no state has.

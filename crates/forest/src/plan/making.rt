@@ -48,11 +48,11 @@ fn flat(states: u16) -> Plan
     let width = bits_for(states as u32);
     let mask = shadow_mask(width, width);
     let places = each_state(
-        states as usize,
+        states,
         |s| Placement {
             parent: None,
             depth: 0,
-            code: StateCode(s as u16),
+            code: StateCode(s.0),
             mask,
         },
     );

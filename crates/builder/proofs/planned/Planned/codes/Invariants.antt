@@ -5,5 +5,5 @@ use Rattle.builder.specs.Lists.{code_of}
 use Rattle.builder.proofs.planned.Planned.codes.Given as goal
 
 -- the codes of the states so far
-abbrev pub invariant-loop-s : goal.invariant-loop-s
-invariant-loop-s l = l.codes.items ≡ map (code_of (meant l.self.automaton)) (range_with_len 0 l.s)
+abbrev pub invariant-loop-placement : goal.invariant-loop-placement
+invariant-loop-placement l = l.codes.items ≡ map (code_of (meant l.self.automaton)) (range_with_len 0 l.placement-index)

@@ -10,4 +10,4 @@ returns-in-None c byte h =
     let a = meant c.args.self.now.automaton in
     let s = c.args.state.0 in
     get_or-replicate 256 byte false false h
-    ∙ ap (λ (o : Option _). shared_with a o s byte) (ap number_of (sym c.in-None.is) ∙ parent_is a s c.place_of.result (c.place_of.ensures c.requires))
+    ∙ ap (λ (o : Option _). shared_with a o s byte) (ap number_of (sym c.in-None.is) ∙ parent_is a s c.place_of.result c.place_of.ensures)

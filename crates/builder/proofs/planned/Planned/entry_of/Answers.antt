@@ -8,8 +8,8 @@ use Rattle.builder.proofs.planned.Planned.entry_of.Goals as goal
 
 pub returns : goal.returns
 returns c =
-    let own = c.place_of-own.ensures c.requires.0 in
-    let next = c.place_of-next.ensures c.requires.1 in
+    let own = c.place_of-own.ensures in
+    let next = c.place_of-next.ensures in
     let k = c.new.ensures in
     entry-same c.new.result (entry_for (meant c.args.self.now.automaton) c.args.state.0 c.args.word)
     (k.code_value ∙ ap (λ (p : Placement). bit_and p.code.0 p.mask) own)

@@ -1,15 +1,16 @@
-use Rattle.std.proofs.Common.{◌≡◌, ◌+◌, ◌<◌, List, ◌++◌, map, length, sym, ap, ◌∙◌, arith, length-append}
+use Rattle.std.proofs.Common.{◌+◌, ◌<◌, List, ◌++◌, map, length, sym, ap, ◌∙◌, arith, length-append}
 use Rattle.arrayvec.specs.ArrayVec.{ArrayVec}
 use Rattle.ternary.specs.declared.entry.Entry.{Entry}
 use Rattle.automaton.specs.Sound.{meant}
 use Rattle.forest.specs.declared.plan.Placement.{Placement}
 use Rattle.forest.specs.Deferment.{forest_of}
+use Rattle.forest.proofs.Plans.{placement_at}
 use Rattle.builder.specs.Gathering.{lists_of, level_over}
 use Rattle.builder.specs.Lists.{byte_word, entry_for}
 use Rattle.builder.proofs.Blocks.{block_entries, level_grows, level_with, level_without}
 use Rattle.builder.proofs.Collecting.{broken, further}
 use Rattle.builder.proofs.planned.Planned.gather_level.Goals as goal
-use Rattle.builder.proofs.planned.Planned.gather_level.Goals.{then-place_of-depth+in_ok-gather_state, else-place_of-depth}
+use Rattle.builder.proofs.planned.Planned.gather_level.Goals.{then-placement-depth+in_ok-gather_state, else-placement-depth}
 
 pub returns-in_err-gather_state : goal.returns-in_err-gather_state
 returns-in_err-gather_state c =
@@ -17,11 +18,11 @@ returns-in_err-gather_state c =
     let lists = lists_of a in
     let s = c.loop-s.s in
     let d = c.args.depth in
-    let place = c.place_of.result in
-    let known : s < a.states = omega (arith, c.loop-s-test.true, c.states-s-end.ensures) in
-    let is : (forest_of a).depth s ≡ place.depth = sym (ap (λ (p : Placement). p.depth) (c.place_of.ensures known)) in
+    let given = c.placements-placement-items in
+    let known : s < a.states = omega (arith, c.loop-s-test.true, c.args.self.now.planned.0, ap length given.ensures.value) in
+    let is = sym (ap (λ (p : Placement). p.depth) (placement_at (forest_of a) a.states s given.result.now _ (given.ensures.placed a c.args.self.now.planned) known)) in
     let so_far = ap length c.loop-s.invariant ∙ length-append c.args.gathered.now.items (level_over a lists d s) in
-    let next = ap length (level_with a (forest_of a) (λ t. map byte_word (lists t)) d s (is ∙ c.if-place_of-depth.true)) ∙ (length-append (level_over a lists d s) _ ∙ ap (λ (es : List Entry). length (level_over a lists d s) + length es) (block_entries a s (lists s))) in
+    let next = ap length (level_with a (forest_of a) (λ t. map byte_word (lists t)) d s (is ∙ c.if-placement-depth.true)) ∙ (length-append (level_over a lists d s) _ ∙ ap (λ (es : List Entry). length (level_over a lists d s) + length es) (block_entries a s (lists s))) in
     let grows = level_grows a (forest_of a) (λ t. map byte_word (lists t)) d (s + 1) a.states (omega (arith, known)) in
     broken c.args.gathered.now.items c.loop-s.gathered.items c.gather_state.new.gathered.items c.gather_state.new.gathered.items (map (entry_for a s) (lists s)) (level_over a lists d a.states) c.from_residual.result _
     c.from_residual.ensures.1 c.in_err-gather_state.ensures (omega (arith, so_far, next, grows))
@@ -32,15 +33,15 @@ loop-s-preserved c =
     let lists = lists_of a in
     let s = c.loop-s.s in
     let d = c.args.depth in
-    let place = c.place_of.result in
-    let known : s < a.states = omega (arith, c.loop-s-test.true, c.states-s-end.ensures) in
-    let is : (forest_of a).depth s ≡ place.depth = sym (ap (λ (p : Placement). p.depth) (c.place_of.ensures known)) in
-    elim c.if-place_of-depth.branch [
-      | then-place_of-depth+in_ok-gather_state w ↦
+    let given = c.placements-placement-items in
+    let known : s < a.states = omega (arith, c.loop-s-test.true, c.args.self.now.planned.0, ap length given.ensures.value) in
+    let is = sym (ap (λ (p : Placement). p.depth) (placement_at (forest_of a) a.states s given.result.now _ (given.ensures.placed a c.args.self.now.planned) known)) in
+    elim c.if-placement-depth.branch [
+      | then-placement-depth+in_ok-gather_state w ↦
           ap (λ (g : ArrayVec Entry). g.items) w.gathered-is
           ∙ further c.args.gathered.now.items c.loop-s.gathered.items w.gather_state.new.gathered.items (level_over a lists d s) (map (entry_for a s) (lists s)) (level_over a lists d (s + 1)) c.loop-s.invariant w.in_ok-gather_state.ensures
-          (level_with a (forest_of a) (λ t. map byte_word (lists t)) d s (is ∙ w.if-place_of-depth.true) ∙ ap (λ (es : List Entry). level_over a lists d s ++ es) (block_entries a s (lists s)))
-      | else-place_of-depth w ↦
+          (level_with a (forest_of a) (λ t. map byte_word (lists t)) d s (is ∙ w.if-placement-depth.true) ∙ ap (λ (es : List Entry). level_over a lists d s ++ es) (block_entries a s (lists s)))
+      | else-placement-depth w ↦
           ap (λ (g : ArrayVec Entry). g.items) w.gathered-is
-          ∙ (c.loop-s.invariant ∙ ap (λ (es : List Entry). c.args.gathered.now.items ++ es) (sym (level_without a (forest_of a) (λ t. map byte_word (lists t)) d s (λ e. w.if-place_of-depth.false (sym is ∙ e)))))
+          ∙ (c.loop-s.invariant ∙ ap (λ (es : List Entry). c.args.gathered.now.items ++ es) (sym (level_without a (forest_of a) (λ t. map byte_word (lists t)) d s (λ e. w.if-placement-depth.false (sym is ∙ e)))))
     ]

@@ -12,5 +12,5 @@ returns c =
     let a = meant c.args.self.now.automaton in
     let s = c.args.state.0 in
     c.shortest_list.ensures.words
-    ∙ chosen-same (numbered c.row_of-row.result) (a.next s) (flags c.deferrable_of-deferrable.result) (deferrable a s)
-    (λ byte h. ap (λ (t : StateNo). t.0) (c.row_of-row.ensures byte h)) c.deferrable_of-deferrable.ensures
+    ∙ chosen-same (numbered c.successors-row.result.now) (a.next s) (flags c.deferrable_of.result) (deferrable a s)
+    (λ byte h. ap (λ (t : StateNo). t.0) (c.successors-row.ensures.each byte h)) c.deferrable_of.ensures

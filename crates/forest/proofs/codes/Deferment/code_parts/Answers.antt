@@ -12,9 +12,9 @@ each_state-requires c =
 pub returns : goal.returns
 returns c =
     let f = held c.args.self.now in
-    let shifted : (s : ℕ) → s < f.states → get_or c.each_state.result.items s 0 ≡ f.number s * 2 ^ (c.args.width - get_or c.args.lens.now s 0) % 2 ^ 32 = λ s hs. let told = c.each_state.ensures.each s 0 hs in search rules in
+    let shifted : (s : ℕ) → s < f.states → get_or c.each_state.result.items s 0 ≡ f.number s * 2 ^ (c.args.width - get_or c.args.lens.now s 0) % 2 ^ 32 = λ s hs. let told = c.each_state.ensures.each s 0 (omega (arith, hs, c.states.ensures)) in search rules in
     let narrow : f.width ≤ 16 = omega (arith, c.requires.width) in (
-      c.each_state.ensures.long,
+      c.each_state.ensures.long ∙ c.states.ensures,
       λ s hs.
           shifted s hs
           ∙ ap₂ (λ (x y : ℕ). f.number s * 2 ^ (x - y) % 2 ^ 32) c.requires.width.0 (c.requires.lens.1 s hs)

@@ -9,20 +9,20 @@ pub overflow_add-sum : goal.overflow_add-sum
 overflow_add-sum c =
     let at = c.loop-at in
     let amounts = c.args.amounts.now in
-    omega (arith, at.invariant.1, c.requires.fits, sum_step c.args.self.now amounts at.at c.in-Some.p.0 at.invariant.0 (ap named c.in-Some.is), ap (λ (k : ℕ). get_or amounts k 0) c.from-at.ensures)
+    omega (arith, at.invariant.1, c.requires.fits, sum_step c.args.self.now amounts at.at c.in-Some.p.0 at.invariant.0 (ap named c.in-Some.is), ap (λ (k : ℕ). get_or amounts k 0) c.from-at-in-Some.ensures)
 
 pub loop-at-preserved : goal.loop-at-preserved
 loop-at-preserved c =
     let at = c.loop-at in
     let amounts = c.args.amounts.now in
     let f = held c.args.self.now in (
-      omega (arith, c.from-at.ensures, c.args.self.now.rooted.inside at.at c.in-Some.p.0 at.invariant.0 (ap named c.in-Some.is)),
+      omega (arith, c.from-at-in-Some.ensures, c.args.self.now.rooted.inside at.at c.in-Some.p.0 at.invariant.0 (ap named c.in-Some.is)),
       omega (
         arith,
         at.invariant.1,
         sum_step c.args.self.now amounts at.at c.in-Some.p.0 at.invariant.0 (ap named c.in-Some.is),
-        ap (λ (k : ℕ). get_or amounts k 0) c.from-at.ensures,
-        ap (sum_above f amounts) c.from-at.ensures,
+        ap (λ (k : ℕ). get_or amounts k 0) c.from-at-in-Some.ensures,
+        ap (sum_above f amounts) c.from-at-in-Some.ensures,
       ),
     )
 

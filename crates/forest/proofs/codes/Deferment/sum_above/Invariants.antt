@@ -7,7 +7,7 @@ use Rattle.forest.proofs.codes.Deferment.sum_above.Given as goal
 abbrev pub invariant-loop-at : goal.invariant-loop-at
 invariant-loop-at l =
     (l.at < (held l.self).states)
-    × (l.sum + sum_above (held l.self) l.amounts l.at ≡ l.own + sum_above (held l.self) l.amounts l.s)
+    × (l.sum + sum_above (held l.self) l.amounts l.at ≡ l.own + sum_above (held l.self) l.amounts l.fn.s.0)
 
 abbrev pub decreases-loop-at : goal.decreases-loop-at
 decreases-loop-at l = (held l.self).depth l.at

@@ -3,6 +3,6 @@ use Rattle.forest.proofs.sharing.ByteCounts.of.Goals as goal
 
 pub invariant_of-result-clause-loops_counted : goal.invariant_of-result-clause-loops_counted
 invariant_of-result-clause-loops_counted c = (
-  omega (arith, c.each_state-loops.ensures.long, c.states-states.ensures),
+  omega (arith, c.each_state-loops.ensures.long, c.states.ensures),
   λ s hs. let told = c.each_state-loops.ensures.each s 0 (omega arith) in search rules,
 )
