@@ -40,12 +40,7 @@ fn progress_sum(progress: Progress, sum: u64) -> u64
 }
 
 // Feeds a piece, and adds what is answered and the marks to a sum, or the number of a refusal.
-fn feed<C: Card>(
-    scanner: &mut Scanner<C>,
-    piece: &[u8],
-    marks: &mut [Mark],
-    sum: u64,
-) -> u64
+fn feed<C: Card>(scanner: &mut Scanner<C>, piece: &[u8], marks: &mut [Mark], sum: u64) -> u64
     ensures told { FeedTold (C.entries scanner.old.card) piece.now scanner.old.position scanner.new.position marks.old marks.new sum result }
     ensures card { scanner.new.card ≡ scanner.old.card }
 {
@@ -60,12 +55,7 @@ fn feed<C: Card>(
 }
 
 // Feeds a piece so many times.
-fn feeds<C: Card>(
-    scanner: &mut Scanner<C>,
-    piece: &[u8],
-    marks: &mut [Mark],
-    count: u32,
-) -> u64
+fn feeds<C: Card>(scanner: &mut Scanner<C>, piece: &[u8], marks: &mut [Mark], count: u32) -> u64
     ensures told { Fed (C.entries scanner.old.card) piece.now scanner.old.position marks.old count scanner.new.position marks.new result }
 {
     let mut sum = 0;
