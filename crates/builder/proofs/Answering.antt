@@ -13,7 +13,7 @@ use Rattle.image.specs.Rules.{fault, parts_fault}
 use Rattle.image.proofs.Packs.{packed_answer, packed_after}
 use Rattle.forest.specs.Plan.{PlanAnswer}
 use Rattle.table.specs.Acceptance.{Acceptable}
-use Rattle.builder.specs.Build.{Declines, beyond, little, many, long, BuildAnswer, ShortestImage, work_needed}
+use Rattle.builder.specs.Build.{Declines, beyond, little, many, long, BuildAnswer, OverShortest, ShortestImage, work_needed}
 use Rattle.builder.specs.Gathering.{lists_of}
 use Rattle.builder.specs.Lists.{table_over, parts_over}
 use Rattle.builder.proofs.Canonical.{lists_shortest, one_size, too_many}
@@ -73,6 +73,10 @@ module _ (a : Handed) (within : Within a) (few : length (table_over (dfa a) (lis
 -- what packing says of its bytes makes the image acceptable, and the entries behind each shadow a shortest list
 abbrev pub SaysParts : Handed → List ℕ → ℕ → Type 0
 SaysParts a out size = (fault (take size out) ≡ None) × (decode (take size out) ≡ parts_over (dfa a) (lists_of (dfa a)))
+
+pub parts_from_says : (a : Handed) → length (table_over (dfa a) (lists_of (dfa a))) ≤ 4096 → (out : List ℕ) (r : Result ℕ Refusal) → IfOk r (SaysParts a out) → IfOk r (λ size. OverShortest (dfa a) (decode (take size out)))
+parts_from_says a few out r = IfOk-weaker r (SaysParts a out) (λ size. OverShortest (dfa a) (decode (take size out)))
+    (λ size says. record { lists = lists_of (dfa a); shortest = lists_shortest (dfa a); few = few; over = says.1 })
 
 pub accepted_from : (a : Handed) → Within a → (out : List ℕ) (r : Result ℕ Refusal) → IfOk r (SaysParts a out) → IfOk r (λ size. Acceptable a (take size out))
 accepted_from a within out r = IfOk-weaker r (SaysParts a out) (λ size. Acceptable a (take size out)) (λ size says. acceptable a within (take size out) says.0 says.1)

@@ -10,7 +10,7 @@ use Rattle.fields.specs.Fields.{written}
 use Rattle.automaton.specs.Limits.{Handed, Within, dfa}
 use Rattle.automaton.specs.Runs.{Dfa}
 use Rattle.image.specs.Calls.{image_size}
-use Rattle.image.specs.Format.{decode, encode}
+use Rattle.image.specs.Format.{Parts, decode, encode}
 use Rattle.prefix.specs.declared.word.PrefixWord.{PrefixWord}
 use Rattle.prefix.specs.Words.{Formed, Shortest}
 use Rattle.forest.specs.Forest.{Forest, code, mask}
@@ -31,6 +31,13 @@ pub record Built (a : Dfa) (before after : List ℕ) (size : ℕ) : Type 0 where
   pub image : after ≡ written before 0 (encode (parts_over a lists))
   -- every choice of shortest lists makes an image of that size
   pub sole : (others : Lists) → ShortestLists a others → image_size (parts_over a others) ≡ size
+
+-- parts over shortest lists, whose table has 4,096 entries or fewer; which shortest lists is free
+pub record OverShortest (a : Dfa) (parts : Parts) : Type 0 where
+  pub lists : Lists
+  pub shortest : ShortestLists a lists
+  pub few : length (table_over a lists) ≤ 4096
+  pub over : parts ≡ parts_over a lists
 
 -- no lists that meet the byte rule make a table of 4,096 entries or fewer
 abbrev pub TooMany : Dfa → Type 0

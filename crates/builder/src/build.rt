@@ -2,7 +2,8 @@
 ghost use Rattle.std.specs.Prelude.{length, take, IfOk};
 ghost use Rattle.automaton.specs.Limits.{handed, dfa};
 ghost use Rattle.table.specs.Acceptance.{Acceptable};
-ghost use Rattle.builder.specs.Build.{BuildAnswer, RoomSuffices, ShortestImage, SoleAnswer};
+ghost use Rattle.image.specs.Format.{decode};
+ghost use Rattle.builder.specs.Build.{BuildAnswer, OverShortest, RoomSuffices, ShortestImage, SoleAnswer};
 
 use crate::planned::Planned;
 use automaton::words::Automaton;
@@ -15,6 +16,7 @@ pub fn build(automaton: Automaton<'_>, work: &mut [u32], out: &mut [u8]) -> Resu
     ensures answer { BuildAnswer (handed automaton.entry) work.old work.new out.old out.new result }
     ensures only { SoleAnswer (handed automaton.entry) work.old out.old result }
     ensures suffices { RoomSuffices (length out.old) result }
+    ensures parts { IfOk result (λ size. OverShortest (dfa (handed automaton.entry)) (decode (take size out.new))) }
     ensures accepted { IfOk result (λ size. Acceptable (handed automaton.entry) (take size out.new)) }
     ensures shortest { IfOk result (λ size. ShortestImage (dfa (handed automaton.entry)) (take size out.new)) }
 {

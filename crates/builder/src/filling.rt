@@ -41,6 +41,7 @@ impl Planned<'_> {
     {
         let height = self.height();
         let mut gathered = Gathered::new();
+        // A depth has no slice behind it.
         for depth in (0..height).rev() {
             self.gather_level(depth, &mut gathered)?;
         }

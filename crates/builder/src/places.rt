@@ -38,7 +38,7 @@ impl Planned<'_> {
         ensures { result.items ≡ map (code_of (meant self.now.automaton)) (range_with_len 0 (meant self.now.automaton).states) }
     {
         let mut codes = ArrayVec::new();
-        // A vector of fixed capacity has no `collect` without an allocator.
+        // `extend` would answer a refusal that cannot be: there is room for all states.
         for placement in self.plan.placements() {
             codes.push(placement.code);
         }

@@ -40,7 +40,7 @@ impl Card for ListCard<'_> {
     ghost size = { places };
 
     fn capacity(&self) -> u16 {
-        self.buffer.len().min(65_535) as u16
+        u16::try_from(self.buffer.len()).unwrap_or(u16::MAX)
     }
 
     fn is_empty(&self) -> bool {

@@ -65,7 +65,7 @@ fn show_walk<C: Card>(
         Ok(progress) => {
             print!(rt; "{name}, slots {slots}: taken {}, marks", progress.taken)?;
             for mark in marks.iter().take(progress.marks) {
-                print!(rt; " ({}, {})", mark.place, mark.class)?;
+                print!(rt; " {mark}")?;
             }
             let code = progress.code.0;
             let stopped = progress.marks_full;

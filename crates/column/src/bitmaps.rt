@@ -18,6 +18,7 @@ pub(crate) fn find(words: &[u64], count: usize, code: u16, byte: u8) -> Option<u
         (λ i. (i < count) × (hit words.now code byte i ≡ true) × ((j : ℕ) → j < i → hit words.now code byte j ≡ false)) }
 {
     let blocks = count.div_ceil(64);
+    // The number of a block gives its words and the places of its entries.
     for block in 0..blocks {
         if let Some(place) = lowest(join(words, block, code, byte)) {
             let index = 64 * block + place as usize;
@@ -90,6 +91,7 @@ fn write_field(words: &mut [u64], base: usize, place: u32, value: u16, mask: u16
     ensures kept { Kept words.old words.new base width place }
     ensures marked { Marked words.new base width place value mask }
 {
+    // The number of a key bit gives the bit of the value and the place of its two words.
     for k in 0..width {
         let v = (value >> k) & 1;
         let m = (mask >> k) & 1;

@@ -5,10 +5,10 @@ use crate::bitmaps::{BLOCK, find, write_entry};
 use card::rules::Card;
 use ternary::entry::Entry;
 use ternary::refusal::Refusal;
-use ternary::words::StateCode;
+use ternary::words::{MOST_ENTRIES, StateCode};
 
-// The most blocks that a card uses: it holds at most 4,096 entries.
-const MOST_BLOCKS: usize = 64;
+// The most blocks that a card uses, 64 entries each.
+const MOST_BLOCKS: usize = MOST_ENTRIES / 64;
 
 // A card made of bitmaps: for each key bit and each value of it, the entries that accept that value.
 // The bits of places from `used` on are never trusted: they may be anything.

@@ -8,6 +8,7 @@ use automaton::file::read;
 use card::list::ListCard;
 use commission::commission::commission;
 use commission::words::{Answer, Call, Done, Filing, Report};
+use forest::plan::FIXED_WORK;
 use std::alloc::{AllocError, Global};
 use std::{env, fs, io};
 use ternary::entry::Entry;
@@ -22,7 +23,7 @@ const SLOTS: usize = 4;
 const MOST_SUCCESSORS: usize = 256 * MOST_STATES;
 
 // The numbers of working memory that suffice for the largest automaton, and the bytes of the largest image.
-const WORK: usize = MOST_STATES * MOST_STATES + 8192;
+const WORK: usize = MOST_STATES * MOST_STATES + FIXED_WORK;
 
 const LARGEST_IMAGE: usize = 12 + 2 * MOST_STATES + 9 * MOST_ENTRIES;
 
@@ -131,7 +132,7 @@ fn print_answer(rt: &HostRuntime, name: &str, answer: &Answer) -> io::Result<()>
             let searches = progress.searches;
             print!(rt; "{name}: taken {taken}, code {code}, searches {searches}, marks")?;
             for mark in marks.iter() {
-                print!(rt; " ({}, {})", mark.place, mark.class)?;
+                print!(rt; " {mark}")?;
             }
             println!(rt; "")
         }

@@ -57,6 +57,7 @@ impl Grove {
         ensures { let a = meant counts.now.automaton in
             trees_in self.new ≡ kruskal (trees_in self.old) (pairs_of a shared s.0 a.states) }
     {
+        // The numbers of two states ask for their count; no slice holds the states.
         for t in s.0 + 1..counts.states() {
             if counts.shared(s, StateNo(t)) == shared {
                 self.join(s, StateNo(t));
@@ -69,6 +70,7 @@ impl Grove {
         ensures { let a = meant counts.now.automaton in
             trees_in self.new ≡ kruskal (trees_in self.old) (pairs_below a shared a.states) }
     {
+        // States have no slice behind their numbers.
         for s in 0..counts.states() {
             self.join_row(counts, shared, StateNo(s));
         }
@@ -79,6 +81,7 @@ impl Grove {
         ensures { trees_in result ≡ trees_of (meant counts.now.automaton) }
     {
         let mut grove = Grove::alone();
+        // A count is a number, and the larger come first.
         for shared in (32..=256).rev() {
             grove.join_sharing(counts, shared);
         }

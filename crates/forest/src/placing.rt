@@ -41,6 +41,7 @@ fn place_round(grove: &Grove, r: u16, places: &mut [Option<Place>])
     ensures { (a : Dfa) → trees_in grove.now ≡ trees_of a → r < a.states → Placed a (trees_of a) r places.old →
         Placed a (trees_of a) (r + 1) places.new }
 {
+    // What holds of a round is told by the places of the joins, so the empty ones are walked too.
     for join in &grove.joins {
         if let Some(join) = join {
             visit(places, r, join.low, join.high);
@@ -72,6 +73,7 @@ fn roots(grove: &Grove, counts: &ByteCounts<'_>) -> [Option<Place>; MOST_STATES]
         (s : ℕ) → s < a.states → slice_index_or result s None ≡ (if beaten_in grove.now.labels a s then None else Some root_place) }
 {
     let mut places = [None; MOST_STATES];
+    // The number of a place is the state that is asked about.
     for (s, place) in places[..counts.states() as usize].iter_mut().enumerate() {
         *place = (!is_beaten(grove, counts, StateNo(s as u16))).then_some(Place {
             depth: 0,
@@ -87,6 +89,7 @@ pub(crate) fn places(grove: &Grove, counts: &ByteCounts<'_>) -> ArrayVec<Place, 
     ensures { AllInPlace (meant counts.now.automaton) result.items }
 {
     let mut places = roots(grove, counts);
+    // A round is known by its number alone.
     for r in 0..counts.states() {
         place_round(grove, r, &mut places);
     }

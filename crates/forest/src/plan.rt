@@ -10,6 +10,9 @@ use ternary::words::{MOST_STATES, StateCode, StateNo};
 
 mod making;
 
+// The numbers of working memory that a plan asks for beyond one for each two states.
+pub const FIXED_WORK: usize = 8192;
+
 // A state's place in a plan: the state that it defers to, unless it is a root; its steps to the root; its code,
 // which is its shadow's value too; and the mask of its shadow.
 #[derive(Clone, Copy, PartialEq, Eq, Default, Debug)]

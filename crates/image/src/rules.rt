@@ -3,7 +3,7 @@ ghost use Rattle.ternary.specs.Refusals.{verdict};
 ghost use Rattle.image.specs.Rules.{header_fault};
 
 use ternary::refusal::Refusal;
-use ternary::words::{MOST_ENTRIES, MOST_STATES, StateNo};
+use ternary::words::{MOST_BITS, MOST_ENTRIES, MOST_STATES, StateNo};
 
 // Refuses the first field of the header after its length that breaks a rule.
 pub(crate) fn check_header(
@@ -14,7 +14,7 @@ pub(crate) fn check_header(
 ) -> Result<(), Refusal>
     ensures { result ≡ verdict (header_fault width states start.0 entries) }
 {
-    if width > 16 {
+    if u32::from(width) > MOST_BITS {
         Err(Refusal::Malformed(5))
     } else if states < 1 || states > MOST_STATES {
         Err(Refusal::Malformed(6))

@@ -7,6 +7,7 @@ ghost use Rattle.image.specs.Format.{code_bytes, decode, entry_bytes, header_byt
 ghost use Rattle.image.specs.Rules.{code_fault, fault, parts_fault, raw_fault};
 
 use crate::item::{check_all, put, put_all};
+use crate::reader::Header;
 use crate::rules::{check_header, code_limit};
 use ternary::entry::Entry;
 use ternary::refusal::Refusal;
@@ -27,16 +28,18 @@ fn check_parts(
     check_all(entries, limit, 12 + 2 * codes.len())
 }
 
-// The bytes before the codes.
-fn header_bytes(width: u8, states: u16, start: StateNo, entries: u16) -> [u8; 12]
-    ensures { result ≡ header_bytes width states start.0 entries }
-{
-    let rest = 7 + 2 * states as u32 + 9 * entries as u32;
-    let [r3, r2, r1, r0] = rest.to_be_bytes();
-    let [n1, n0] = states.to_be_bytes();
-    let [s1, s0] = start.0.to_be_bytes();
-    let [m1, m0] = entries.to_be_bytes();
-    [1, r3, r2, r1, r0, width, n1, n0, s1, s0, m1, m0]
+impl Header {
+    // The bytes before the codes.
+    fn bytes(self) -> [u8; 12]
+        ensures { result ≡ header_bytes self.width self.states self.start.0 self.entries }
+    {
+        let rest = 7 + 2 * self.states as u32 + 9 * self.entries as u32;
+        let [r3, r2, r1, r0] = rest.to_be_bytes();
+        let [n1, n0] = self.states.to_be_bytes();
+        let [s1, s0] = self.start.0.to_be_bytes();
+        let [m1, m0] = self.entries.to_be_bytes();
+        [1, r3, r2, r1, r0, self.width, n1, n0, s1, s0, m1, m0]
+    }
 }
 
 // Writes the image of these parts over the first bytes of the output, and answers its size; or the
@@ -58,8 +61,13 @@ pub fn pack(
     if out.len() < size {
         return Err(Refusal::OutputTooShort);
     }
-    let header = header_bytes(width, states as u16, start, entries.len() as u16);
-    put(out, 0, &header);
+    let header = Header {
+        width,
+        states: states as u16,
+        start,
+        entries: entries.len() as u16,
+    };
+    put(out, 0, &header.bytes());
     put_all(out, 12, codes);
     put_all(out, 12 + 2 * states, entries);
     Ok(size)

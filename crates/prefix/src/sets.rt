@@ -46,6 +46,7 @@ pub(crate) fn append_part(states: &mut States, part: Part)
     requires room { array_vec_len states.old + (part.end - part.first) ≤ 2304 }
     ensures { states.new.items ≡ states.old.items ++ part_of states.old.items part }
 {
+    // as above
     for i in part.first..part.end {
         let state = states[i as usize];
         states.push(state);

@@ -31,6 +31,7 @@ fn symbols(heap: Global, width: u8, value: u16, mask: Option<u16>) -> Result<Str
         return String::from_str(heap, "-");
     }
     let mut text = String::new(heap);
+    // The place of a bit may lie past the number, where no slice goes.
     for place in (0..width).rev() {
         text.push(symbol(is_compared(mask, place), bit_at(value, place)))?;
     }

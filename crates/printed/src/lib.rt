@@ -2,7 +2,8 @@
 
 pub mod bits;
 pub mod plans;
-mod reading;
+pub mod reading;
 pub mod refused;
 pub mod summary;
 pub mod tables;
+pub mod tabulating;

@@ -5,15 +5,12 @@ ghost use Rattle.forest.specs.Plan.{PlanOf};
 ghost use Rattle.printed.specs.Lines.{width_text, parent_text, place_text, state_text, ended, plan_text, small_answer, FilePlan, file_text};
 
 use crate::bits::{code_text, word_text};
-use crate::reading::SmallAutomaton;
-use crate::refused::refusal_line;
+use crate::reading::{SMALL_WORK, SmallAutomaton};
+use crate::refused::{ended_line, refusal_line};
 use forest::plan::{Placement, Plan};
 use std::alloc::{AllocError, Global};
 use ternary::refusal::Refusal;
 use ternary::words::StateNo;
-
-// The numbers of working memory that suffice to plan 64 states: 64 x 64 + 8,192.
-const WORK: usize = 12_288;
 
 // What is printed for an automaton file: its plan, or why it is refused.
 pub fn file_text(heap: Global, file: &[u8]) -> Result<String, AllocError>
@@ -31,7 +28,7 @@ pub fn plan_file(file: &[u8]) -> Result<Plan, Refusal>
     ensures { FilePlan file.now (small_answer file.now) result }
 {
     let small = SmallAutomaton::read(file)?;
-    let mut work = [0; WORK];
+    let mut work = [0; SMALL_WORK];
     Plan::of(small.automaton(), &mut work)
 }
 
@@ -88,11 +85,4 @@ pub fn plan_text(heap: Global, plan: &Plan) -> Result<String, AllocError>
         text.push_str(ended_line(heap, line)?.as_str())?;
     }
     Ok(text)
-}
-
-// A line and the line feed that ends it.
-fn ended_line(heap: Global, line: String) -> Result<String, AllocError>
-    ensures { IfOk result (λ s. string_bytes s ≡ ended (string_bytes line)) }
-{
-    format!(in heap; "{line}\n")
 }

@@ -102,6 +102,7 @@ fn fill<C: Card>(card: &mut C, image: Image<'_>)
 {
     card.clear();
     for e in image.entries() {
+        // There is room for all, so none is declined.
         let _ = card.append(e);
     }
 }

@@ -52,6 +52,7 @@ fn taken<T: Listed + Default, const MOST: usize>(items: Items<'_, T>) -> ArrayVe
     ensures { result.items ≡ unread T.listed items.entry }
 {
     let mut list = ArrayVec::new();
+    // `extend` would answer a refusal that cannot be: there is room for all.
     for item in items {
         list.push(item);
     }
@@ -71,6 +72,7 @@ impl Table<'_> {
     fn first_wrong(&self) -> Option<(StateNo, u8)>
         ensures { WrongPlace (meant self.now.automaton) (listed self.now.codes.now) self.now.entries.now result }
     {
+        // The answer is that of the loop over bytes, which stays for the reason given there.
         for number in 0..self.automaton.states() {
             let state = StateNo(number);
             if let Some(byte) = self.first_wrong_byte(state) {

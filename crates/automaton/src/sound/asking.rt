@@ -32,7 +32,7 @@ impl<'a> SoundAutomaton<'a> {
     }
 
     // The successors of a state, byte by byte; none for a number that no state has.
-    pub fn row(&self, state: StateNo) -> &'a [StateNo]
+    fn row(&self, state: StateNo) -> &'a [StateNo]
         ensures { result.now ≡ slice_range (handed self.now.automaton).successors (256 * state.0) (256 * state.0 + 256) }
     {
         let start = 256 * usize::from(state);

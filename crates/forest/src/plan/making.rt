@@ -8,7 +8,7 @@ ghost use Rattle.forest.specs.Plan.{PlanOf, Planned, PlanAnswer, states_of};
 
 use crate::codes::{Deferment, bits_for, each_state, shadow_mask};
 use crate::deferment::defer;
-use crate::plan::{Placement, Plan};
+use crate::plan::{FIXED_WORK, Placement, Plan};
 use automaton::sound::SoundAutomaton;
 use automaton::words::Automaton;
 use ternary::refusal::Refusal;
@@ -22,7 +22,7 @@ impl Plan {
     {
         let automaton = automaton.sound()?;
         let states = automaton.states() as usize;
-        if work.len() < states * states + 8192 {
+        if work.len() < states * states + FIXED_WORK {
             return Err(Refusal::WorkTooShort);
         }
         Ok(planned(automaton, work))

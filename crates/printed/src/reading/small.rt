@@ -4,14 +4,11 @@ ghost use Rattle.automaton.specs.Limits.{handed};
 ghost use Rattle.printed.specs.Lines.{small_answer};
 ghost use Rattle.printed.specs.Small.{held, ReadSmall};
 
-use crate::reading::{MOST_STATES, MOST_SUCCESSORS, SmallAutomaton};
+use crate::reading::{LONGEST_FILE, SMALL_STATES, SMALL_SUCCESSORS, SmallAutomaton};
 use automaton::file::read;
 use automaton::words::Automaton;
 use ternary::refusal::Refusal;
 use ternary::words::StateNo;
-
-// The longest file that is printed.
-const LONGEST_FILE: usize = 65_536;
 
 impl SmallAutomaton {
     // The automaton in a file, or why it is refused: first for its length, then for a fault, then for its number of
@@ -19,11 +16,11 @@ impl SmallAutomaton {
     pub(crate) fn read(file: &[u8]) -> Result<SmallAutomaton, Refusal>
         ensures { ReadSmall file.now (small_answer file.now) result }
     {
-        if file.len() > LONGEST_FILE {
+        if file.len() as u64 > LONGEST_FILE {
             return Err(Refusal::OutputTooShort);
         }
-        let mut successors = [StateNo(0); MOST_SUCCESSORS];
-        let mut classes = [0; MOST_STATES];
+        let mut successors = [StateNo(0); SMALL_SUCCESSORS];
+        let mut classes = [0; SMALL_STATES];
         let header = read(file, &mut successors, &mut classes)?;
         Ok(SmallAutomaton {
             header,

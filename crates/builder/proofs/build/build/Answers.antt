@@ -10,10 +10,10 @@ use Rattle.image.specs.Format.{Parts, decode, parts_from}
 use Rattle.image.specs.Rules.{fault}
 use Rattle.prefix.specs.States.{state_no}
 use Rattle.table.specs.Acceptance.{Acceptable}
-use Rattle.builder.specs.Build.{BuildAnswer, ShortestImage}
+use Rattle.builder.specs.Build.{BuildAnswer, OverShortest, ShortestImage}
 use Rattle.builder.specs.Gathering.{lists_of}
 use Rattle.builder.specs.Lists.{code_of, table_over, parts_over}
-use Rattle.builder.proofs.Answering.{plan_declined, gather_declined, packed, accepted_from, shortest_from}
+use Rattle.builder.proofs.Answering.{plan_declined, gather_declined, packed, parts_from_says, accepted_from, shortest_from}
 use Rattle.builder.proofs.OneBuild.{sole_answer, room_suffices}
 use Rattle.builder.proofs.build.build.Goals as goal
 
@@ -26,6 +26,7 @@ returns-in_err-planned c =
       answer = answer;
       only = sole_answer a c.args.work.now c.of.new.work c.args.out.now c.args.out.now r answer;
       suffices = room_suffices a c.args.work.now c.of.new.work c.args.out.now c.args.out.now r answer;
+      parts = IfOk-from_err r _ c.from_residual.ensures.0;
       accepted = IfOk-from_err r _ c.from_residual.ensures.0;
       shortest = IfOk-from_err r _ c.from_residual.ensures.0;
     }
@@ -48,6 +49,7 @@ returns-in_err-entries c =
       answer = answer;
       only = sole_answer a c.args.work.now c.of.new.work c.args.out.now c.args.out.now r answer;
       suffices = room_suffices a c.args.work.now c.of.new.work c.args.out.now c.args.out.now r answer;
+      parts = IfOk-from_err r _ c.from_residual-in_err-entries.ensures.0;
       accepted = IfOk-from_err r _ c.from_residual-in_err-entries.ensures.0;
       shortest = IfOk-from_err r _ c.from_residual-in_err-entries.ensures.0;
     }
@@ -75,6 +77,7 @@ returns c =
       answer = answer;
       only = sole_answer a c.args.work.now c.of.new.work c.args.out.now c.pack.new.out c.pack.result answer;
       suffices = room_suffices a c.args.work.now c.of.new.work c.args.out.now c.pack.new.out c.pack.result answer;
+      parts = subst (λ (x : Automaton). IfOk c.pack.result (λ size. OverShortest (dfa (handed x)) (decode (take size c.pack.new.out)))) told.0 (parts_from_says s few c.pack.new.out c.pack.result says);
       accepted = subst (λ (x : Automaton). IfOk c.pack.result (λ size. Acceptable (handed x) (take size c.pack.new.out))) told.0 (accepted_from s p.automaton.within c.pack.new.out c.pack.result says);
       shortest = subst (λ (x : Automaton). IfOk c.pack.result (λ size. ShortestImage (dfa (handed x)) (take size c.pack.new.out))) told.0 (shortest_from s c.pack.new.out c.pack.result says);
     }

@@ -12,8 +12,8 @@ returns c =
     let p : Parts = parts_from c.args.width c.args.start c.args.codes.now c.args.entries.now in
     let none = passed_none (parts_fault p) _ c.in_ok-check_parts.ensures in
     let made =
-    written-encode p out c.put.new.out c.put_all.new.out c.put_all-2.new.out c.header_bytes-header.result
-    c.header_bytes-header.ensures c.put.ensures c.put_all.ensures c.put_all-2.ensures in
+    written-encode p out c.put.new.out c.put_all.new.out c.put_all-2.new.out c.bytes.result
+    c.bytes.ensures c.put.ensures c.put_all.ensures c.put_all-2.ensures in
     let front = packed_front p out c.put_all-2.new.out made in
     let back = parts_back p none in
     record {
