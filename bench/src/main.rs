@@ -1,0 +1,18 @@
+//! Times the proved calls beside a plain Rust implementation of the same calls, on the same inputs and in one run. For each
+//! measurement both must first give the same answer.
+
+mod automata;
+mod measures;
+mod ours;
+mod plain;
+mod report;
+mod rounds;
+mod timing;
+
+fn main() {
+    measures::builds();
+    measures::checks();
+    measures::feeds();
+    measures::searches();
+    measures::growth();
+}

@@ -1,0 +1,10 @@
+use Rattle.std.proofs.Common.{arith}
+use Rattle.image.specs.Calls.{parts_of}
+use Rattle.image.proofs.Ruled.{ruled}
+use Rattle.measured.proofs.searches.measured_column_search.Goals as goal
+
+pub fill-requires-clause-few : goal.fill-requires-clause-few
+fill-requires-clause-few c = (ruled (parts_of c.in-Ok.image) c.in-Ok.ensures.parts).entries
+
+pub fill-requires-clause-room : goal.fill-requires-clause-room
+fill-requires-clause-room c = omega (arith, fill-requires-clause-few c, c.new-card.ensures.free)

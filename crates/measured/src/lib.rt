@@ -1,0 +1,8 @@
+#![tactic(auto)]
+
+// What is measured beside plain Rust: calls of the library, exported for a program that is not Rattle. This crate is there
+// for measuring alone.
+mod calls;
+mod feeds;
+mod searches;
+mod states;
