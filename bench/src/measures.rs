@@ -6,7 +6,7 @@ use crate::automata::{
 };
 use crate::ours::{self, Key};
 use crate::plain::build::{build, build_sorted};
-use crate::plain::check::check;
+use crate::plain::check::{check, check_straight};
 use crate::plain::forest::work_needed;
 use crate::plain::image::{pack, unpack};
 use crate::plain::words::{Automaton, MOST_ENTRIES, MOST_STATES};
@@ -88,7 +88,7 @@ pub fn builds() {
 
 /// A check of a built image.
 pub fn checks() {
-    heading("Check", "ours", "plain");
+    let mut times = Vec::new();
     for (what, owned) in [
         ("words in a text", words_automaton(MOST_STATES)),
         ("a full table", eight_bytes(MOST_STATES)),
@@ -98,15 +98,25 @@ pub fn checks() {
         let entries = unpack(&image).expect("an image").entries;
         assert_eq!(ours::check(&automaton, &image), 0);
         assert_eq!(check(&automaton, &image), Ok(()));
-        let [mine, plain] = best_in_turn(
+        assert_eq!(check_straight(&automaton, &image), Ok(()));
+        let best = best_in_turn(
             9,
             [
                 &mut || _ = black_box(ours::check(black_box(&automaton), &image)),
                 &mut || _ = black_box(check(black_box(&automaton), &image)),
+                &mut || _ = black_box(check_straight(black_box(&automaton), &image)),
             ],
         );
         let what = format!("{what}: {} states, {entries} entries", automaton.states);
-        line(&what, nanoseconds(mine), nanoseconds(plain), Bar::AtMost(1.3));
+        times.push((what, best.map(nanoseconds)));
+    }
+    heading("Check", "ours", "plain");
+    for (what, [mine, plain, _]) in &times {
+        line(what, *mine, *plain, Bar::AtMost(1.3));
+    }
+    heading("Check, beside plain Rust that searches all entries for each byte", "ours", "plain, straight");
+    for (what, [mine, _, straight]) in &times {
+        line(what, *mine, *straight, Bar::None);
     }
 }
 

@@ -89,9 +89,14 @@ impl Entry {
         }
     }
 
+    /// Whether all compared bits of the code agree.
+    pub fn accepts(&self, code: u16) -> bool {
+        code & self.code_mask == self.code_value
+    }
+
     /// Whether all compared bits of the code and of the byte agree.
     pub fn matches(&self, code: u16, byte: u8) -> bool {
-        code & self.code_mask == self.code_value && byte & self.byte_mask == self.byte_value
+        self.accepts(code) && byte & self.byte_mask == self.byte_value
     }
 }
 

@@ -59,6 +59,9 @@ fn taken<T: Listed + Default, const MOST: usize>(items: Items<'_, T>) -> ArrayVe
     list
 }
 
+// The entries that match the code of one state.
+type Own = ArrayVec<Entry, MOST_ENTRIES>;
+
 // Whether an entry matches a code.
 fn accepts(entry: Entry, code: StateCode) -> bool
     ensures { result ≡ accepts code.0 entry }
@@ -80,10 +83,11 @@ impl Table<'_> {
     fn first_wrong(&self) -> Option<(StateNo, u8)>
         ensures { WrongPlace (meant self.now.automaton) (listed self.now.codes.now) self.now.entries.now result }
     {
+        let mut own = Own::new();
         // The answer is that of the loop over bytes, which stays for the reason given there.
         for number in 0..self.automaton.states() {
             let state = StateNo(number);
-            if let Some(byte) = self.first_wrong_of(state) {
+            if let Some(byte) = self.first_wrong_of(state, &mut own) {
                 return Some((state, byte));
             }
         }
@@ -92,29 +96,28 @@ impl Table<'_> {
 
     // The lowest byte at which the entries do not carry a state. They are looked through once for those that match its code,
     // so that a search for a byte meets these alone.
-    fn first_wrong_of(&self, state: StateNo) -> Option<u8>
+    fn first_wrong_of(&self, state: StateNo, own: &mut Own) -> Option<u8>
         ensures { WrongByte (meant self.now.automaton) (listed self.now.codes.now) self.now.entries.now state.0 result }
     {
-        let entries = self.entries_for(self.code(state));
-        let own = Table {
+        self.take_for(self.code(state), own);
+        let alone = Table {
             automaton: self.automaton,
             codes: self.codes,
-            entries: entries.as_slice(),
+            entries: own.as_slice(),
         };
-        own.first_wrong_byte(state)
+        alone.first_wrong_byte(state)
     }
 
-    // The entries that match a code, in order, whatever their byte.
-    fn entries_for(&self, code: StateCode) -> ArrayVec<Entry, MOST_ENTRIES>
-        ensures { result.items ≡ filter (accepts code.0) self.now.entries.now }
+    // Takes the entries that match a code, in order, whatever their byte, in place of those that were taken before.
+    fn take_for(&self, code: StateCode, own: &mut Own)
+        ensures { own.new.items ≡ filter (accepts code.0) self.now.entries.now }
     {
-        let mut own = ArrayVec::new();
+        own.clear();
         for entry in self.entries {
             if accepts(*entry, code) {
                 own.push(*entry);
             }
         }
-        own
     }
 
     // The lowest byte at which the entries do not carry a state, by a search among all of them.

@@ -14,5 +14,5 @@ returns c =
     let s = c.args.state.0 in
     let found = c.first_wrong_byte.result in
     let own : c.as_slice.result.now ≡ filter (accepts (code s).0) es =
-    c.as_slice.ensures.value ∙ (c.entries_for-entries.ensures ∙ ap (λ (x : StateCode). filter (accepts x.0) es) c.code.ensures) in
+    c.as_slice.ensures.value ∙ (c.take_for.ensures ∙ ap (λ (x : StateCode). filter (accepts x.0) es) c.code.ensures) in
     wrong_byte a code es s found (subst (λ (l : List Entry). WrongByte a code l s found) own c.first_wrong_byte.ensures)

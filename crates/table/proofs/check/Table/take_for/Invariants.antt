@@ -1,6 +1,6 @@
 use Rattle.std.proofs.Common.{◌≡◌, ◌≤◌, ◌++◌, drop, filter, length}
 use Rattle.table.specs.Steps.{accepts}
-use Rattle.table.proofs.check.Table.entries_for.Given as goal
+use Rattle.table.proofs.check.Table.take_for.Given as goal
 
 -- what is found so far and what is found in the entries still to come are all that match
 abbrev pub invariant-loop-entry : goal.invariant-loop-entry
