@@ -4,7 +4,7 @@ use std::alloc::{AllocError, Global};
 use ternary::words::StateNo;
 
 // An automaton with buffers of its own.
-#[derive(Drop)]
+#[derive(Clone, Drop)]
 pub struct Machine {
     pub start: StateNo,
     pub successors: Vec<StateNo>,

@@ -16,7 +16,7 @@ const LARGEST_IMAGE: usize = 12 + 2 * MOST_STATES + 9 * MOST_ENTRIES;
 pub type Made = Result<Vec<u8>, Refusal>;
 
 // The parts of an image.
-#[derive(Drop)]
+#[derive(Clone, Drop)]
 pub struct Parts {
     pub width: u8,
     pub start: StateNo,
@@ -34,6 +34,14 @@ impl Parts {
             codes: image.codes().collect(heap)?,
             entries: image.entries().collect(heap)?,
         })
+    }
+
+    // The code of a state, and 0 for a number that no state has.
+    pub fn code(&self, state: StateNo) -> StateCode {
+        self.codes
+            .get(usize::from(state))
+            .copied()
+            .unwrap_or_default()
     }
 
     // The image of the parts.
