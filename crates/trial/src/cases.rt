@@ -2,6 +2,7 @@
 use crate::altered::{altered, set};
 use crate::counts::add;
 use crate::figures::machine_ab;
+use crate::findings::Subject;
 use crate::machine::Machine;
 use crate::parts::{Made, Parts, built, room};
 use crate::scan::Scanned;
@@ -44,12 +45,12 @@ impl Case {
             Ok(image) => image,
             Err(why) => {
                 add(&mut trial.findings.counts.refused_builds, 1);
-                trial.expect("build refused", why == Refusal::TooManyEntries)?;
+                trial.expect(Subject::Build, why == Refusal::TooManyEntries)?;
                 return Ok(None);
             }
         };
         let Ok(unpacked) = unpack(image.as_slice()) else {
-            trial.expect("unpack refused", false)?;
+            trial.expect(Subject::Unpack, false)?;
             return Ok(None);
         };
         let parts = Parts::of(trial.heap, unpacked)?;
@@ -73,14 +74,14 @@ impl Case {
         add(&mut trial.findings.counts.images, 1);
         let automaton = self.machine.automaton();
         let checked = check(automaton, self.image.as_slice());
-        trial.expect("check of a built image", checked == Ok(()))?;
+        trial.expect(Subject::Check, checked == Ok(()))?;
         let scanned = verdict(automaton, &self.parts);
-        trial.expect("a built image carries its automaton", scanned == Ok(()))?;
+        trial.expect(Subject::Carried, scanned == Ok(()))?;
         let again = match self.parts.packed(trial.heap)? {
             Ok(bytes) => bytes.as_slice() == self.image.as_slice(),
             Err(_) => false,
         };
-        trial.expect("packed again", again)
+        trial.expect(Subject::PackedAgain, again)
     }
 
     // Builds with too little working memory, or into too short an output, are refused and leave the output.
@@ -88,13 +89,10 @@ impl Case {
         let room = room(self.machine.automaton());
         let size = self.image.len();
         let short = self.refuses(trial, room.saturating_sub(1), size)?;
-        trial.expect("too little memory", short == Some(Refusal::WorkTooShort))?;
+        trial.expect(Subject::LittleWork, short == Some(Refusal::WorkTooShort))?;
         if self.parts.codes.len() < 64 {
             let short = self.refuses(trial, room, size.saturating_sub(1))?;
-            trial.expect(
-                "too short an output",
-                short == Some(Refusal::OutputTooShort),
-            )?;
+            trial.expect(Subject::ShortOutput, short == Some(Refusal::OutputTooShort))?;
         }
         Ok(())
     }
@@ -199,7 +197,7 @@ impl Case {
                     why,
                 },
             ),
-            Err(_) => trial.expect("pack refused", false),
+            Err(_) => trial.expect(Subject::Pack, false),
         }
     }
 
@@ -210,7 +208,7 @@ impl Case {
             Err(Refusal::CardTooSmall) => Ok(()),
             why => why,
         };
-        trial.expect("check", answer == expected)?;
+        trial.expect(Subject::Check, answer == expected)?;
         if wrong.why.is_err() {
             self.wrong.push(wrong)?;
         }

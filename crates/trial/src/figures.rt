@@ -1,5 +1,5 @@
 // Figures of the rules that are not proved as one fact: limits, altered tables, and chains of deferment.
-use crate::findings::Findings;
+use crate::findings::{Findings, Subject};
 use crate::machine::Machine;
 use crate::parts::{Parts, built};
 use card::list::ListCard;
@@ -49,32 +49,32 @@ fn number<T>(answer: &Result<T, Refusal>) -> u8 {
 // 512 states pass, and 513 are refused by all calls.
 fn try_states(heap: Global, findings: &mut Findings) -> Result<(), AllocError> {
     let most = Machine::new(heap, 512, 0, |_, _| 0)?;
-    findings.figure("512 states", number(&most.automaton().limits()) == 0)?;
+    findings.figure(Subject::MostStates, number(&most.automaton().limits()) == 0)?;
     let image = built(heap, most.automaton())?;
-    findings.figure("512 states built", number(&image) == 0)?;
+    findings.figure(Subject::MostStates, number(&image) == 0)?;
     let more = Machine::new(heap, 513, 0, |_, _| 0)?;
     let more = more.automaton();
-    findings.figure("513 states", number(&more.limits()) == 1)?;
-    findings.figure("513 states built", number(&built(heap, more)?) == 1)?;
-    findings.figure("513 states checked", number(&check(more, &[])) == 1)?;
+    findings.figure(Subject::MoreStates, number(&more.limits()) == 1)?;
+    findings.figure(Subject::MoreStates, number(&built(heap, more)?) == 1)?;
+    findings.figure(Subject::MoreStates, number(&check(more, &[])) == 1)?;
     let mut scanner = Scanner::new(ListCard::new(&mut []));
-    findings.figure("513 states loaded", number(&scanner.load(more, &[])) == 1)
+    findings.figure(Subject::MoreStates, number(&scanner.load(more, &[])) == 1)
 }
 
 // A piece of 65,536 bytes passes, and one of 65,537 is refused.
 fn try_pieces(heap: Global, findings: &mut Findings) -> Result<(), AllocError> {
     let ab = machine_ab(heap)?;
     let Ok(image) = built(heap, ab.automaton())? else {
-        return findings.figure("ab built", false);
+        return findings.figure(Subject::Ab, false);
     };
     let mut places = [Entry::default(); 3];
     let mut scanner = Scanner::new(ListCard::new(&mut places));
     let loaded = scanner.load(ab.automaton(), image.as_slice());
-    findings.figure("ab loaded", number(&loaded) == 0)?;
+    findings.figure(Subject::Ab, number(&loaded) == 0)?;
     let piece = vec![in heap; b'a'; 65_537]?;
     let mut marks = [Mark::default(); 1];
     let refused = scanner.feed(piece.as_slice(), &mut marks);
-    findings.figure("65,537 bytes", number(&refused) == 9)?;
+    findings.figure(Subject::LongerPiece, number(&refused) == 9)?;
     let passed = match piece.as_slice().get(..65_536) {
         Some(shorter) => scanner.feed(shorter, &mut marks),
         None => refused,
@@ -86,7 +86,7 @@ fn try_pieces(heap: Global, findings: &mut Findings) -> Result<(), AllocError> {
         marks_full: false,
         searches: 65_536,
     };
-    findings.figure("65,536 bytes", passed == Ok(all))
+    findings.figure(Subject::LongestPiece, passed == Ok(all))
 }
 
 // The entries that mark each "ab" with class 7, over codes of two bits, of which the first has this successor code.
@@ -121,13 +121,13 @@ fn checked_ab(
 fn try_tables(heap: Global, findings: &mut Findings) -> Result<(), AllocError> {
     let [first, second, third] = entries_ab(StateCode(2));
     let whole = checked_ab(heap, StateCode(2), &[first, second, third])?;
-    findings.figure("ab checked", whole == Ok(()))?;
+    findings.figure(Subject::Ab, whole == Ok(()))?;
     let swapped = checked_ab(heap, StateCode(2), &[first, third, second])?;
-    findings.figure("two swapped", swapped == wrong(0, 0x61))?;
+    findings.figure(Subject::TwoSwapped, swapped == wrong(0, 0x61))?;
     let removed = checked_ab(heap, StateCode(2), &[second, third])?;
-    findings.figure("one removed", removed == wrong(1, 0x62))?;
+    findings.figure(Subject::OneRemoved, removed == wrong(1, 0x62))?;
     let shared = checked_ab(heap, StateCode(0), &entries_ab(StateCode(0)))?;
-    findings.figure("a shared code", shared == Ok(()))
+    findings.figure(Subject::SharedCode, shared == Ok(()))
 }
 
 // The refusal at this state and byte.
@@ -137,8 +137,8 @@ fn wrong(state: u16, byte: u8) -> Result<(), Refusal> {
 
 // A chain of deferment of 17 states has 16 code bits, and one of 18 is built flat with 5.
 fn try_chains(heap: Global, findings: &mut Findings) -> Result<(), AllocError> {
-    findings.figure("a chain of 17", chain_width(heap, 17)? == Some(16))?;
-    findings.figure("a chain of 18", chain_width(heap, 18)? == Some(5))
+    findings.figure(Subject::ChainOf17, chain_width(heap, 17)? == Some(16))?;
+    findings.figure(Subject::ChainOf18, chain_width(heap, 18)? == Some(5))
 }
 
 // How many bits a code of the image has that is built for such a chain.

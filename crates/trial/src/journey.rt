@@ -1,6 +1,7 @@
 // A journey: calls of a scanner, and beside it the run of the automaton.
 use crate::cases::Case;
 use crate::counts::add;
+use crate::findings::Subject;
 use crate::scan::Scan;
 use crate::streams::{drawn_piece, drawn_slots};
 use crate::trial::Trial;
@@ -29,7 +30,7 @@ struct Journey<'a, C> {
 
 // Makes calls on a new scanner over an empty card for the entries of a case.
 pub fn travel<C: Card + Drop>(trial: &mut Trial, case: &Case, card: C) -> Result<(), AllocError> {
-    trial.expect("capacity", card.capacity() as usize == case.capacity)?;
+    trial.expect(Subject::Capacity, card.capacity() as usize == case.capacity)?;
     let mut journey = Journey {
         case,
         scanner: Scanner::new(card),
@@ -80,7 +81,7 @@ impl<'a, C: Card> Journey<'a, C> {
         let automaton = self.case.machine.automaton();
         let answer = self.scanner.load(automaton, self.case.image.as_slice());
         self.scan = Some(Scan::new(automaton));
-        trial.expect("load", answer == Ok(()))?;
+        trial.expect(Subject::Load, answer == Ok(()))?;
         self.stand(trial)
     }
 
@@ -92,7 +93,7 @@ impl<'a, C: Card> Journey<'a, C> {
         }
         add(&mut trial.findings.counts.restarts, 1);
         self.scan = Some(Scan::new(self.case.machine.automaton()));
-        trial.expect("restart", answer == Ok(()))?;
+        trial.expect(Subject::Restart, answer == Ok(()))?;
         self.stand(trial)
     }
 
@@ -113,9 +114,9 @@ impl<'a, C: Card> Journey<'a, C> {
             .counts
             .count_feed(scanned.taken, scanned.marks.len());
         let expected = self.case.progress(&scanned, scan.state());
-        trial.expect("feed", answer == Ok(expected))?;
+        trial.expect(Subject::Feed, answer == Ok(expected))?;
         scanned.marks.resize(slots, STALE)?;
-        trial.expect("marks", marks.as_slice() == scanned.marks.as_slice())
+        trial.expect(Subject::Marks, marks.as_slice() == scanned.marks.as_slice())
     }
 
     // A feed of a piece of 65,537 bytes.
@@ -144,7 +145,7 @@ impl<'a, C: Card> Journey<'a, C> {
     // After a call that was refused, as it had to be, the scanner stands where it stood.
     fn refused(&mut self, trial: &mut Trial, right: bool) -> Result<(), AllocError> {
         add(&mut trial.findings.counts.refused_calls, 1);
-        trial.expect("refusal", right)?;
+        trial.expect(Subject::Refused, right)?;
         self.stand(trial)
     }
 
@@ -161,6 +162,6 @@ impl<'a, C: Card> Journey<'a, C> {
             }),
             None => Err(Refusal::NotLoaded),
         };
-        trial.expect("where the scanner stands", answer == expected)
+        trial.expect(Subject::Stand, answer == expected)
     }
 }

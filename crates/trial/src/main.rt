@@ -65,7 +65,7 @@ fn print_findings(rt: &HostRuntime, findings: &Findings) -> anyhow::Result<()> {
     let counts = findings.counts;
     println!(rt; "{counts}")?;
     for difference in findings.differences.iter() {
-        println!(rt; "seed {}: {}", difference.seed, difference.what)?;
+        println!(rt; "seed {}: {:?}", difference.seed, difference.subject)?;
     }
     println!(rt; "{} differences", findings.differences.len())?;
     Ok(())

@@ -1,5 +1,5 @@
 // What all steps of a trial share.
-use crate::findings::Findings;
+use crate::findings::{Findings, Subject};
 use crate::random::Random;
 use std::alloc::{AllocError, Global};
 
@@ -28,7 +28,7 @@ impl Trial {
     }
 
     // Keeps it as a difference if something does not hold.
-    pub fn expect(&mut self, what: &'static str, holds: bool) -> Result<(), AllocError> {
-        self.findings.expect(what, holds)
+    pub fn expect(&mut self, subject: Subject, holds: bool) -> Result<(), AllocError> {
+        self.findings.expect(subject, holds)
     }
 }

@@ -106,7 +106,8 @@ fn spoil_entry(image: &mut Vec<u8>, states: usize, index: usize) -> usize {
 pub fn mismatched(heap: Global, parts: &Parts) -> Result<Made, AllocError> {
     let mut parts = parts.clone()?;
     if parts.codes.len() < MOST_STATES {
-        parts.codes.push(parts.code(StateNo(0)))?;
+        let code = parts.code(StateNo(0));
+        parts.codes.push(code)?;
     } else {
         parts.start = StateNo(parts.start.0 ^ 1);
     }
