@@ -39,16 +39,42 @@ impl Case {
         }
     }
 
-    // The case of an automaton, unless its table would have too many entries.
+    // The case of an automaton with the image that is built for it, unless that would have too many entries.
     pub fn of(trial: &mut Trial, machine: Machine) -> Result<Option<Case>, AllocError> {
-        let image = match built(trial.heap, machine.automaton())? {
-            Ok(image) => image,
+        match built(trial.heap, machine.automaton())? {
+            Ok(image) => {
+                try_builds(trial, &machine, image.len())?;
+                Case::over(trial, machine, image)
+            }
             Err(why) => {
                 add(&mut trial.findings.counts.refused_builds, 1);
                 trial.expect(Subject::Build, why == Refusal::TooManyEntries)?;
-                return Ok(None);
+                Ok(None)
             }
-        };
+        }
+    }
+
+    // The case of the same automaton with a changed table, if that carries it too.
+    pub fn changed(&self, trial: &mut Trial) -> Result<Option<Case>, AllocError> {
+        let parts = altered(&mut trial.random, &self.parts)?;
+        if verdict(self.machine.automaton(), &parts).is_err() {
+            return Ok(None);
+        }
+        match parts.packed(trial.heap)? {
+            Ok(image) => Case::over(trial, self.machine.clone()?, image),
+            Err(_) => {
+                trial.expect(Subject::Pack, false)?;
+                Ok(None)
+            }
+        }
+    }
+
+    // The case of an automaton with an image that carries it.
+    fn over(
+        trial: &mut Trial,
+        machine: Machine,
+        image: Vec<u8>,
+    ) -> Result<Option<Case>, AllocError> {
         let Ok(unpacked) = unpack(image.as_slice()) else {
             trial.expect(Subject::Unpack, false)?;
             return Ok(None);
@@ -64,7 +90,6 @@ impl Case {
             wrong: Vec::new(trial.heap),
         };
         case.try_image(trial)?;
-        case.try_builds(trial)?;
         case.add_wrong(trial)?;
         Ok(Some(case))
     }
@@ -82,38 +107,6 @@ impl Case {
             Err(_) => false,
         };
         trial.expect(Subject::PackedAgain, again)
-    }
-
-    // Builds with too little working memory, or into too short an output, are refused and leave the output.
-    fn try_builds(&self, trial: &mut Trial) -> Result<(), AllocError> {
-        let room = room(self.machine.automaton());
-        let size = self.image.len();
-        let short = self.refuses(trial, room.saturating_sub(1), size)?;
-        trial.expect(Subject::LittleWork, short == Some(Refusal::WorkTooShort))?;
-        if self.parts.codes.len() < 64 {
-            let short = self.refuses(trial, room, size.saturating_sub(1))?;
-            trial.expect(Subject::ShortOutput, short == Some(Refusal::OutputTooShort))?;
-        }
-        Ok(())
-    }
-
-    // Why a build with so much memory and output is refused, if it leaves the output as it was.
-    fn refuses(
-        &self,
-        trial: &mut Trial,
-        room: usize,
-        size: usize,
-    ) -> Result<Option<Refusal>, AllocError> {
-        add(&mut trial.findings.counts.refused_builds, 1);
-        let mut work = vec![in trial.heap; 7; room]?;
-        let mut bytes = vec![in trial.heap; 9; size]?;
-        let answer = build(
-            self.machine.automaton(),
-            work.as_mut_slice(),
-            bytes.as_mut_slice(),
-        );
-        let unchanged = bytes.iter().all(|byte| *byte == 9);
-        Ok(answer.err().filter(|_| unchanged))
     }
 
     // Makes the loads that are refused, of each sort one.
@@ -214,4 +207,35 @@ impl Case {
         }
         Ok(())
     }
+}
+
+// Builds with too little working memory, or into one byte too few, are refused.
+fn try_builds(trial: &mut Trial, machine: &Machine, size: usize) -> Result<(), AllocError> {
+    let room = room(machine.automaton());
+    let short = refuses(trial, machine, room.saturating_sub(1), size)?;
+    trial.expect(Subject::LittleWork, short == Some(Refusal::WorkTooShort))?;
+    if machine.classes.len() < 64 {
+        let short = refuses(trial, machine, room, size.saturating_sub(1))?;
+        trial.expect(Subject::ShortOutput, short == Some(Refusal::OutputTooShort))?;
+    }
+    Ok(())
+}
+
+// Why a build with so much memory and output is refused, if it leaves the output as it was.
+fn refuses(
+    trial: &mut Trial,
+    machine: &Machine,
+    room: usize,
+    size: usize,
+) -> Result<Option<Refusal>, AllocError> {
+    add(&mut trial.findings.counts.refused_builds, 1);
+    let mut work = vec![in trial.heap; 7; room]?;
+    let mut bytes = vec![in trial.heap; 9; size]?;
+    let answer = build(
+        machine.automaton(),
+        work.as_mut_slice(),
+        bytes.as_mut_slice(),
+    );
+    let unchanged = bytes.iter().all(|byte| *byte == 9);
+    Ok(answer.err().filter(|_| unchanged))
 }

@@ -14,7 +14,7 @@ use ternary::words::StateCode;
 // The words of a block of 64 entries on a column card.
 const BLOCK: usize = 48;
 
-// One round: an automaton, its image, and its journeys.
+// One round: an automaton, its image, and its journeys; and one more with a changed table, if that carries it too.
 pub fn try_round(trial: &mut Trial) -> Result<(), AllocError> {
     add(&mut trial.findings.counts.automata, 1);
     let machine = drawn_machine(trial.heap, &mut trial.random)?;
@@ -28,7 +28,11 @@ pub fn try_round(trial: &mut Trial) -> Result<(), AllocError> {
     try_column(trial, &case)?;
     try_list_and_column(trial, &case, cut, rest)?;
     try_column_and_list(trial, &case, cut, rest)?;
-    try_three(trial, &case, cut, rest)
+    try_three(trial, &case, cut, rest)?;
+    match case.changed(trial)? {
+        Some(changed) => try_list(trial, &changed),
+        None => Ok(()),
+    }
 }
 
 // Places of a list card.
