@@ -34,7 +34,12 @@ fn join(words: &[u64], block: usize, code: u16, byte: u8) -> u64
     ensures { (p : ℕ) → p < 64 → bit result p ≡ hit words.now code byte (64 * block + p) }
 {
     let base = BLOCK * block;
-    join_field(words, base, code, 16) & join_field(words, base + BYTE, byte as u16, 8)
+    let accepting = join_field(words, base, code, 16);
+    // Most blocks have no entry for the code: the words of the byte need not be read there.
+    if accepting == 0 {
+        return 0;
+    }
+    accepting & join_field(words, base + BYTE, byte as u16, 8)
 }
 
 // Which of the 64 entries of a block accept the lowest bits of a number in one field: one bitmap for each bit, joined by "and".
