@@ -7,7 +7,7 @@ use crate::machine::Machine;
 use crate::parts::{Made, Parts, built, room};
 use crate::scan::Scanned;
 use crate::trial::Trial;
-use crate::verdict::verdict;
+use crate::verdict::{sufficient_entries, verdict};
 use crate::wrong::{Wrong, bad_automaton, malformed, mismatched, padded};
 use builder::build::build;
 use image::reader::unpack;
@@ -44,11 +44,14 @@ impl Case {
         match built(trial.heap, machine.automaton())? {
             Ok(image) => {
                 try_builds(trial, &machine, image.len())?;
-                Case::over(trial, machine, image)
+                let case = Case::over(trial, machine, image)?;
+                try_count(trial, &case)?;
+                Ok(case)
             }
             Err(why) => {
                 add(&mut trial.findings.counts.refused_builds, 1);
-                trial.expect(Subject::Build, why == Refusal::TooManyEntries)?;
+                let many = sufficient_entries(machine.automaton()) > MOST_ENTRIES;
+                trial.expect(Subject::Build, many && why == Refusal::TooManyEntries)?;
                 Ok(None)
             }
         }
@@ -207,6 +210,15 @@ impl Case {
         }
         Ok(())
     }
+}
+
+// The image that was built has not more entries than suffice.
+fn try_count(trial: &mut Trial, case: &Option<Case>) -> Result<(), AllocError> {
+    let Some(case) = case else {
+        return Ok(());
+    };
+    let most = sufficient_entries(case.machine.automaton());
+    trial.expect(Subject::Entries, case.parts.entries.len() <= most)
 }
 
 // Builds with too little working memory, or into one byte too few, are refused.

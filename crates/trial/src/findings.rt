@@ -27,6 +27,8 @@ pub enum Subject {
     ChainOf18,
     // why a build is refused
     Build,
+    // how many entries a built image has
+    Entries,
     // a build with too little working memory
     LittleWork,
     // a build into too short an output
