@@ -33,8 +33,8 @@ pub fn first_match(entries: &[Entry], code: StateCode, byte: u8) -> Option<(Stat
     find(entries, code, byte).map(|e| (e.next, e.class))
 }
 
-// The first entry that matches. Four are tried in a turn: that is faster by a third than one in a turn, and a search is
-// what feeds spend their time on.
+// The first entry that matches. A search is what feeds spend their time on: four entries are tried in a turn, and it is
+// compiled once, which takes a third of the time off and does not change with where its callers lie.
 #[inline(never)]
 fn find(entries: &[Entry], code: StateCode, byte: u8) -> Option<&Entry>
     ensures { option_copied result ≡ find (λ e. matches e code.0 byte) entries.now }
