@@ -14,7 +14,7 @@ pub struct Machine {
 impl Machine {
     // The automaton of so many states in which each byte leads to the state that a function names, and each state
     // has this class.
-    pub fn new<F: Fn(u16, u8) -> u16>(
+    pub(crate) fn new<F: Fn(u16, u8) -> u16>(
         heap: Global,
         states: u16,
         class: u8,
