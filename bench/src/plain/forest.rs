@@ -32,24 +32,13 @@ pub fn work_needed(states: usize) -> usize {
 
 /// The plan of an automaton; the shared counts of its states are worked out in the lent numbers.
 pub fn plan(automaton: &Automaton<'_>, work: &mut [u32]) -> Result<Plan, Refusal> {
-    plan_by(automaton, work, join_all, place)
-}
-
-/// A plan by how states are joined, from the shared counts and the number of states, and how they are placed, from the
-/// joins and which states are roots.
-pub fn plan_by(
-    automaton: &Automaton<'_>,
-    work: &mut [u32],
-    join: impl Fn(&[u32], usize) -> (Vec<u16>, Vec<Join>),
-    place: impl Fn(&[Join], &[bool]) -> Vec<Place>,
-) -> Result<Plan, Refusal> {
     automaton.check_limits()?;
     let states = automaton.states as usize;
     if work.len() < work_needed(states) {
         return Err(Refusal::WorkTooShort);
     }
     count_shared(automaton, work);
-    let (labels, joins) = join(work, states);
+    let (labels, joins) = join_all(work, states);
     let loops = count_loops(automaton);
     let places = place(&joins, &roots(&labels, &loops));
     Ok(coded(&places).unwrap_or_else(|| flat(states)))

@@ -1,11 +1,23 @@
 //! The plan once more, in the words of the rules: the pairs are collected and sorted, and trees are sets that are united.
 
-use super::forest::{Join, Place, Plan, plan_by};
+use super::forest::{
+    Join, Place, Plan, coded, count_loops, count_shared, flat, roots, work_needed,
+};
 use super::words::{Automaton, Refusal};
 
-/// The plan of an automaton; the shared counts of its states are worked out in the lent numbers.
+/// The plan of an automaton; the shared counts of its states are worked out in the lent numbers. The steps stand as in
+/// `forest`, and not in one function for both: with that the compiler made both slower by a sixth.
 pub fn plan(automaton: &Automaton<'_>, work: &mut [u32]) -> Result<Plan, Refusal> {
-    plan_by(automaton, work, join_sorted, place)
+    automaton.check_limits()?;
+    let states = automaton.states as usize;
+    if work.len() < work_needed(states) {
+        return Err(Refusal::WorkTooShort);
+    }
+    count_shared(automaton, work);
+    let (labels, joins) = join_sorted(work, states);
+    let loops = count_loops(automaton);
+    let places = place(states, &joins, &roots(&labels, &loops));
+    Ok(coded(&places).unwrap_or_else(|| flat(states)))
 }
 
 /// The state that names the tree of a state.
@@ -45,8 +57,7 @@ fn join_sorted(shared: &[u32], states: usize) -> (Vec<u16>, Vec<Join>) {
 }
 
 /// The place of each state, by walking each tree from its root.
-fn place(joins: &[Join], roots: &[bool]) -> Vec<Place> {
-    let states = roots.len();
+fn place(states: usize, joins: &[Join], roots: &[bool]) -> Vec<Place> {
     let mut neighbours = vec![Vec::new(); states];
     for &(s, t) in joins {
         neighbours[usize::from(s)].push(t);
