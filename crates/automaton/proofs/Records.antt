@@ -11,8 +11,8 @@ use Rattle.ternary.specs.declared.refusal.Refusal.TheVariants.{OutputTooShort}
 use Rattle.ternary.specs.Refusals.{refuse_or}
 use Rattle.ternary.specs.declared.words.StateNo.{StateNo}
 use Rattle.automaton.specs.declared.words.ByteRange.{ByteRange}
-use Rattle.fields.specs.Fields.{word, check, or_else, each_fault, frame_fault}
-use Rattle.automaton.specs.File.{fault, fields_fault, read_answer, header_of, room_for, StateRecord, state_no, range_at, range_of, ranges_in, in_range, next_by, record_size, length_fits, range_fault, parts_fault, record_fault, records_fault, record_in, records_in}
+use Rattle.fields.specs.Fields.{word, check, or_else, frame_fault}
+use Rattle.automaton.specs.File.{fault, fields_fault, read_answer, header_of, room_for, StateRecord, state_no, range_at, range_of, in_range, next_by, record_size, length_fits, parts_fault, record_fault, records_fault, record_in, records_in}
 
 -- the successor on a byte, as a search that ends at the first range that holds it
 pub next_found : (rs : List ByteRange) (default : StateNo) (byte : ℕ) → unwrap_or (option_map (λ r. r.next) (find (λ r. in_range r byte) rs)) default ≡ next_by rs default byte
@@ -48,12 +48,6 @@ module _ (bs : List ℕ) (n : ℕ) where
 pub length-fits : (rest : List ℕ) → record_size rest ≤ length rest → word rest 0 % 4 ≡ 3 → length_fits rest ≡ true
 length-fits rest within four =
     and_from (leb (record_size rest) (length rest)) (eqb (word rest 0 % 4) 3) (le-leb (record_size rest) (length rest) within) (eq-eqb (word rest 0 % 4) 3 four)
-
--- a record whose length and default are right
-pub record_ranges : (n at : ℕ) (rest : List ℕ) → record_size rest ≤ length rest → word rest 0 % 4 ≡ 3 → word rest 3 < n → record_fault n at rest ≡ each_fault (range_fault n) 4 (at + 5) (ranges_in (drop 5 rest) (word rest 0 / 4))
-record_ranges n at rest within four small =
-    pass (length_fits rest) at _ (length-fits rest within four)
-    ∙ pass (ltb (word rest 3) n) (at + 3) _ (lt-ltb (word rest 3) n small)
 
 -- one record of several
 module _ (n left fewer at : ℕ) (rest : List ℕ) (one : left ≡ suc fewer) (f : Option ℕ) (is : f ≡ record_fault n at rest) where

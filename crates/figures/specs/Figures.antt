@@ -28,16 +28,19 @@ ab = record {
 abbrev pub state_code : ℕ → StateCode
 state_code n = record { 0 = n }
 
--- its table: after an "a" a "b" leads to code 2 with class 7; an "a" leads to code 1; all else leads to code 0
+-- an entry of its table: after an "a", a "b" leads to code 2 with class 7
 abbrev pub after_a : Entry
 after_a = entry_of 1 3 98 255 (state_code 2) 7
 
+-- an "a" leads to code 1
 abbrev pub on_a : Entry
 on_a = entry_of 0 0 97 255 (state_code 1) 0
 
+-- all else leads to code 0
 abbrev pub else : Entry
 else = entry_of 0 0 0 0 (state_code 0) 0
 
+-- its table
 abbrev pub table : List Entry
 table = after_a ∷ on_a ∷ else ∷ []
 
@@ -49,6 +52,7 @@ answer taken marks code full searches = record { taken = taken; marks = marks; c
 abbrev pub seven_at : ℕ → Mark
 seven_at place = record { place = place; class = 7 }
 
+-- the worked figures
 pub record Figures : Type 0 where
   -- the empty piece takes 0 with 0 searches, over any table, from any code, and leaves the buffer
   pub empty_piece : (es : List Entry) (from : ℕ) (buffer : List Mark) → Outcome es (state_code from) [] buffer buffer (Ok (answer 0 0 from false 0))

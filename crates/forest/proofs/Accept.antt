@@ -8,12 +8,14 @@ use Rattle.std.specs.Option.{option_or}
 use Rattle.ternary.proofs.FirstMatch.{first-++}
 use Rattle.forest.specs.Words.{ByteWord}
 use Rattle.automaton.specs.Runs.{Dfa}
-use Rattle.forest.specs.Forest.{Forest, WellFormed, code, mask, Above, here, up}
+use Rattle.forest.specs.Forest.{Forest, code, mask, Above, here, up}
 use Rattle.forest.specs.Table.{first_word, Deferrable, Gives, ByteRule, decision, entry, block, level, levels, height}
-use Rattle.forest.specs.Laws.{TableStands, ShadowsStand}
+use Rattle.forest.specs.Laws.{Shadows, Right}
+use Rattle.forest.proofs.Formed.{WellFormed}
 use Rattle.forest.proofs.Shadow.{cases_parent, child_rule, match_above, above_match, codes_differ, code_fits, above_depth, above_same_depth, above_states}
 
-pub shadows_stand : ShadowsStand
+-- codes match their own shadows and those above
+pub shadows_stand : (f : Forest) → WellFormed f → Shadows f
 shadows_stand f wf = record { met = λ s t hs ht h. above_match f wf s t hs ht h; only = λ s t hs ht h. match_above f wf s t hs ht h; differ = codes_differ f wf; below = code_fits f wf }
 
 -- the value of a shadow as an entry holds it: the code, cleared under the stars
@@ -148,7 +150,7 @@ below_height f (suc n) s h = elim (cases_eq s n) [
   | inr ne ↦ omega (arith, below_height f n s (omega arith))
 ]
 
-pub table_stands : TableStands
+pub table_stands : (a : Dfa) (f : Forest) (words : ℕ → List ByteWord) → WellFormed f → ByteRule a f words → Right a f words
 table_stands a f words wf rule s b hs hb =
     search_from a f words wf rule s b hs hb (height f f.states) s here (below_height f f.states s hs)
     (λ u hu du ku. match_above f wf u s hu hs (ku ∙ shade_code f wf u hu))

@@ -1,13 +1,12 @@
 -- Parents and depths that agree below n give the same forest there. Assumes nothing.
 use Rattle.std.proofs.Common.{◌≡◌, ℕ, zero, suc, ◌+◌, ◌-◌, ◌*◌, ◌^◌, ◌<◌, ◌≤◌, cond, List, length, Some, None, Option, sym, refl, ap, ◌∙◌, subst, ap₂, inl, inr, arith}
 use Rattle.forest.specs.Forest.{code, mask}
-use Rattle.forest.specs.Codes.{Parents, same, deferring, bits_for, child_bits, root_bits, number_of, prefix_of, len_of, span_of, width_of, parents_in, depths_in, numbered, Rooted}
+use Rattle.forest.specs.Codes.{Parents, same, deferring, bits_for, child_bits, root_bits, number_of, prefix_of, len_of, span_of, width_of, numbered, Rooted}
 use Rattle.forest.specs.Deferment.{trees_of, depth_of, parent_of, joined_forest}
 use Rattle.automaton.specs.Runs.{Dfa}
 use Rattle.forest.specs.declared.placing.Place.{Place}
 use Rattle.forest.specs.Plan.{state_named}
 use Rattle.forest.specs.Placing.{named, parent_at, depth_at, forest_at, AllInPlace}
-use Rattle.forest.specs.Laws.{Holding, Same, ArraysStand}
 use Rattle.forest.proofs.Counts.{count_same_below, most_same_below}
 use Rattle.forest.proofs.Shadow.{cases_parent}
 use Rattle.forest.proofs.Numbered.{number_root, number_child, prefix_root, prefix_child, len_root, len_child}
@@ -103,33 +102,6 @@ module _ (n : ℕ) (parent : Parents) (depth : ℕ → ℕ) (r : Rooted n parent
     mask_as s hs =
         ap (λ (k : ℕ). mask (numbered k q e) s) size
         ∙ ap₂ (λ (x y : ℕ). 2 ^ x - 2 ^ (x - y)) width_in (len_in s hs)
-
--- arrays that hold the parents and the depths of a rooted forest
-same_in : (n : ℕ) (parent : Parents) (depth : ℕ → ℕ) → Rooted n parent depth → (parents : List (Option ℕ)) (depths : List ℕ) → Holding n parent depth parents depths →
-    Same (numbered n parent depth) parents depths
-same_in n parent depth r parents depths found = record {
-  described = λ h. record {
-    size = omega (arith, found.size);
-    rooted = rooted_as n parent depth r (parents_in parents) (depths_in depths) found.parent_at found.depth_at (length parents) found.size;
-  };
-  width = width_as n parent depth r (parents_in parents) (depths_in depths) found.parent_at found.depth_at (length parents) found.size;
-  codes = code_as n parent depth r (parents_in parents) (depths_in depths) found.parent_at found.depth_at (length parents) found.size;
-  masks = mask_as n parent depth r (parents_in parents) (depths_in depths) found.parent_at found.depth_at (length parents) found.size;
-}
-
-loose_rooted : (n : ℕ) → Rooted n (λ s. None) (λ s. 0)
-loose_rooted n = record {
-  roots = λ s hs e. refl;
-  inside = λ s p hs e. absurd (let z : ◌≡◌ {A = ℕ} 0 1 = cc in omega arith);
-  falls = λ s p hs e. absurd (let z : ◌≡◌ {A = ℕ} 0 1 = cc in omega arith);
-  shallow = λ s hs. omega arith;
-}
-
-pub arrays_stand : ArraysStand
-arrays_stand a parents depths = (
-  λ found. same_in a.states (parent_of a (trees_of a)) (depth_of a (trees_of a)) (rooted a (trees_of a) (kept a)) parents depths found,
-  λ found. same_in a.states (λ s. None) (λ s. 0) (loose_rooted a.states) parents depths found,
-)
 
 -- the number of a state that is named by a number
 unnamed : (o : Option ℕ) → named (state_named o) ≡ o

@@ -9,8 +9,11 @@ use Rattle.automaton.specs.Runs.{Dfa}
 use Rattle.forest.specs.Counting.{any}
 use Rattle.forest.specs.Codes.{Rooted, deferring, bits_for, child_bits, span_of, width_of}
 use Rattle.forest.specs.Deferment.{shared, pairs_of, pairs_below, ranked, Trees, alone, join, pair_is, kruskal, trees_of, better, is_root, away, depth_of, parent_of, Walk, stay, step, joined_forest, loose_forest, forest_of}
-use Rattle.forest.specs.Forest.{Forest, WellFormed}
-use Rattle.forest.specs.Laws.{TreesStand, Deferment, DefermentStands, ForestStands, AutomatonStands}
+use Rattle.forest.specs.Forest.{Forest}
+use Rattle.forest.specs.Words.{ByteWord}
+use Rattle.forest.specs.Table.{ByteRule}
+use Rattle.forest.specs.Laws.{Joining, Deferment, Right}
+use Rattle.forest.proofs.Formed.{WellFormed, Fitting}
 use Rattle.forest.proofs.Shadow.{cases_parent}
 use Rattle.forest.proofs.Numbered.{well_formed}
 use Rattle.forest.proofs.Accept.{table_stands}
@@ -438,10 +441,12 @@ module _ (a : Dfa) (f : Trees) where
       shares = λ s p e. (k.close s p (parent_is s p e).1).2;
     }
 
-pub deferment_stands : DefermentStands
+-- the trees, roots and parents of an automaton keep the rule of deferment
+pub deferment_stands : (a : Dfa) → Deferment a (trees_of a)
 deferment_stands a = deferment a (trees_of a) (kept a)
 
-pub trees_stand : TreesStand
+-- its states are joined by the rule
+pub trees_stand : (a : Dfa) → Joining a (trees_of a)
 trees_stand a = record {
   close = (kept a).close;
   connected = λ s t hs ht e. let w = (kept a).connected s t hs ht e in (w.0, omega (arith, w.1, count_bound (λ u. eqb ((trees_of a).tree u) ((trees_of a).tree s)) a.states), w.2);
@@ -474,7 +479,8 @@ loose_width n h =
     let c : deferring (λ t. None) None n ≤ 2 ^ 16 = omega (arith, count_bound (λ t. true) n) in
     omega (arith, bits_least (deferring (λ t. None) None n) 16 c, most_none (λ t. span_of n n (λ t. None) t) n (loose_span n n))
 
-pub forest_stands : ForestStands
+-- its forest is well formed, and its codes fit 16 bits
+pub forest_stands : (a : Dfa) → Fitting a
 unfolding forest_of
 forest_stands a = elim (cases_Bool (leb (joined_forest a).width 16)) [
   | inl e ↦
@@ -493,5 +499,6 @@ forest_stands a = elim (cases_Bool (leb (joined_forest a).width 16)) [
       }
 ]
 
-pub automaton_stands : AutomatonStands
+-- a table over its forest that keeps the byte rule gives every state its right successor
+pub automaton_stands : (a : Dfa) (words : ℕ → List ByteWord) → ByteRule a (forest_of a) words → Right a (forest_of a) words
 automaton_stands a words rule = table_stands a (forest_of a) words (forest_stands a).formed rule

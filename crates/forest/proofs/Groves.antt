@@ -91,12 +91,6 @@ module _ (labels after : List StateNo) (items : List (Option Join)) (s t : State
   ended_in : ended < length items
   ended_in = omega (arith, good.size, good.inside t.0 ht)
 
-  at_moved : (k : ℕ) → k < length labels → label labels k ≡ ended → label after k ≡ label labels s.0
-  at_moved k hk e = moved k hk ∙ cond-true (eqb (label labels k) ended) (label labels s.0) (label labels k) (eq-eqb (label labels k) ended e)
-
-  at_kept : (k : ℕ) → k < length labels → (label labels k ≡ ended → ⊥) → label after k ≡ label labels k
-  at_kept k hk other = moved k hk ∙ cond-false (eqb (label labels k) ended) (label labels s.0) (label labels k) (ne_eqb (label labels k) ended other)
-
   -- what is joined at the ended tree, and at any other place
   here : (u v : ℕ) → joins_at kept ended u v ≡ pair_is (s.0, t.0) u v
   here u v = ap (λ (o : Option Join). joins o u v) (get_or-set_same items ended (Some (record { low = s; high = t })) None ended_in)

@@ -1,7 +1,8 @@
 -- A code is the sum of the parts of a state and of those above it. Assumes nothing.
 use Rattle.std.proofs.Common.{◌≡◌, ℕ, ◌+◌, ◌*◌, ◌^◌, ◌<◌, ◌≤◌, Some, None, Option, sym, ap, ◌∙◌, subst, inl, inr, mul_assoc, add-mul, arith, pow-add}
-use Rattle.forest.specs.Forest.{Forest, WellFormed, Follows, rest, code}
+use Rattle.forest.specs.Forest.{Forest, rest, code}
 use Rattle.forest.specs.Arrays.{part}
+use Rattle.forest.proofs.Formed.{WellFormed, Follows}
 use Rattle.forest.proofs.Shadow.{cases_parent}
 
 module _ (f : Forest) (wf : WellFormed f) (s : ℕ) (hs : s < f.states) where

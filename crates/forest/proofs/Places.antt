@@ -19,14 +19,6 @@ use Rattle.forest.specs.Placing.{place_of, root_place, stands, is_free, visits, 
 use Rattle.forest.proofs.Deferred.{Kept, kept, shallow, depth_away, nearer, next_depth, sole_nearer, root_depth, root_parent}
 use Rattle.forest.proofs.Counts.{any_from, any_gives, any_same}
 
--- a loop that fills an array: one place more
-pub fill_more : {X : Type 0} (xs : List X) (i : ℕ) (v d : X) (g : ℕ → X) → i < length xs → v ≡ g i →
-    ((k : ℕ) → k < i → get_or xs k d ≡ g k) → (k : ℕ) → k < i + 1 → get_or (set xs i v) k d ≡ g k
-fill_more xs i v d g hi e so_far k hk = elim (cases_eq k i) [
-  | inl z ↦ ap (λ (n : ℕ). get_or (set xs i v) n d) z ∙ get_or-set_same xs i v d hi ∙ e ∙ ap g (sym z)
-  | inr ne ↦ get_or-set_other xs i k v d ne ∙ so_far k (omega arith)
-]
-
 range_more : (a n : ℕ) → range_with_len a (suc n) ≡ range_with_len a n ++ (a + n) ∷ []
 range_more a zero = ap (λ (x : ℕ). x ∷ []) (let e : a ≡ a + 0 = omega arith in e)
 range_more a (suc n) =

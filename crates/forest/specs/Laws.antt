@@ -1,11 +1,10 @@
 -- What holds of forests, shadow codes and tables: the laws that planning names. Assumes nothing.
-use Rattle.std.specs.Prelude.{◌≡◌, ℕ, suc, ◌^◌, ◌<◌, ◌≤◌, true, false, List, length, Some, None, Option, bit_and, slice_index, slice_index_or}
+use Rattle.std.specs.Prelude.{◌≡◌, ℕ, suc, ◌^◌, ◌<◌, ◌≤◌, true, false, List, Some, None, bit_and}
 use Rattle.ternary.specs.Match.{first}
 use Rattle.forest.specs.Words.{ByteWord}
 use Rattle.automaton.specs.Runs.{Dfa}
-use Rattle.forest.specs.Forest.{Forest, WellFormed, Above, code, mask}
-use Rattle.forest.specs.Codes.{forest_in, Described}
-use Rattle.forest.specs.Deferment.{Trees, shared, trees_of, Walk, is_root, depth_of, parent_of, joined_forest, loose_forest, forest_of}
+use Rattle.forest.specs.Forest.{Forest, Above, code, mask}
+use Rattle.forest.specs.Deferment.{Trees, shared, trees_of, Walk, is_root, depth_of, parent_of, forest_of}
 use Rattle.forest.specs.Table.{ByteRule, decision, table}
 
 -- a state's code matches its own shadow and those of the states it defers to, and no other
@@ -15,17 +14,11 @@ pub record Shadows (f : Forest) : Type 0 where
   pub differ : (s t : ℕ) → s < f.states → t < f.states → code f s ≡ code f t → s ≡ t
   pub below : (s : ℕ) → s < f.states → code f s < 2 ^ f.width
 
-abbrev pub ShadowsStand : Type 0
-ShadowsStand = (f : Forest) → WellFormed f → Shadows f
-
 -- the first entry that matches a state's code and a byte decides for the state's successor
 abbrev pub Right : Dfa → Forest → (ℕ → List ByteWord) → Type 0
 Right a f words =
     (s byte : ℕ) → s < f.states → byte < 256 →
     first (table a f words) (code f s) byte ≡ Some (decision a f (a.next s byte))
-
-abbrev pub TableStands : Type 0
-TableStands = (a : Dfa) (f : Forest) (words : ℕ → List ByteWord) → WellFormed f → ByteRule a f words → Right a f words
 
 -- what is joined, and what a tree is
 pub record Joining (a : Dfa) (f : Trees) : Type 0 where
@@ -35,9 +28,6 @@ pub record Joining (a : Dfa) (f : Trees) : Type 0 where
   pub connected : (s t : ℕ) → s < a.states → t < a.states → f.tree s ≡ f.tree t → (k : ℕ) × (k < a.states) × Walk a.states f k s t
   -- two states that share 32 bytes or more stand in one tree
   pub complete : (s t : ℕ) → s < t → t < a.states → 32 ≤ shared a s t → f.tree s ≡ f.tree t
-
-abbrev pub TreesStand : Type 0
-TreesStand = (a : Dfa) → Joining a (trees_of a)
 
 -- the trees of an automaton, their roots and the parents keep the rule of deferment
 pub record Deferment (a : Dfa) (f : Trees) : Type 0 where
@@ -52,48 +42,6 @@ pub record Deferment (a : Dfa) (f : Trees) : Type 0 where
   -- it is the only neighbour nearer to the root
   pub sole : (s t : ℕ) → f.joined s t ≡ true → depth_of a f s ≡ suc (depth_of a f t) → parent_of a f s ≡ Some t
   pub shares : (s p : ℕ) → parent_of a f s ≡ Some p → 32 ≤ shared a s p
-
-abbrev pub DefermentStands : Type 0
-DefermentStands = (a : Dfa) → Deferment a (trees_of a)
-
--- the forest of an automaton is well formed, and its codes fit 16 bits
-pub record Fitting (a : Dfa) : Type 0 where
-  pub states : (forest_of a).states ≡ a.states
-  pub formed : WellFormed (forest_of a)
-  pub narrow : a.states ≤ 2 ^ 16 → (forest_of a).width ≤ 16
-
-abbrev pub ForestStands : Type 0
-ForestStands = (a : Dfa) → Fitting a
-
--- so a table over the forest of an automaton gives every state its right successor
-abbrev pub AutomatonStands : Type 0
-AutomatonStands = (a : Dfa) (words : ℕ → List ByteWord) → ByteRule a (forest_of a) words → Right a (forest_of a) words
-
--- arrays hold the parent and the depth of each of n states
-pub record Holding (n : ℕ) (parent : ℕ → Option ℕ) (depth : ℕ → ℕ) (parents : List (Option ℕ)) (depths : List ℕ) : Type 0 where
-  pub size : length parents ≡ n
-  pub depth_at : (s : ℕ) → s < n → slice_index depths s ≡ depth s
-  pub parent_at : (s : ℕ) → s < n → slice_index_or parents s None ≡ parent s
-
--- they hold those of an automaton's joined states
-abbrev pub Found : Dfa → List (Option ℕ) → List ℕ → Type 0
-Found a = Holding a.states (parent_of a (trees_of a)) (depth_of a (trees_of a))
-
--- they hold that every state is a root
-abbrev pub Loose : Dfa → List (Option ℕ) → List ℕ → Type 0
-Loose a = Holding a.states (λ s. None) (λ s. 0)
-
--- arrays describe a forest, with its width, codes and masks
-pub record Same (f : Forest) (parents : List (Option ℕ)) (depths : List ℕ) : Type 0 where
-  pub described : f.states ≤ 2 ^ 16 → Described parents depths
-  pub width : (forest_in parents depths).width ≡ f.width
-  pub codes : (s : ℕ) → s < f.states → code (forest_in parents depths) s ≡ code f s
-  pub masks : (s : ℕ) → s < f.states → mask (forest_in parents depths) s ≡ mask f s
-
--- so do arrays of the joined states, and of states that are all roots
-abbrev pub ArraysStand : Type 0
-ArraysStand = (a : Dfa) (parents : List (Option ℕ)) (depths : List ℕ) →
-    (Found a parents depths → Same (joined_forest a) parents depths) × (Loose a parents depths → Same (loose_forest a) parents depths)
 
 -- what holds of the forest of an automaton: how its states are joined and defer, how its codes match its shadows, and that every table over it that keeps the byte rule gives each state its right successors
 pub record PlanLaws (a : Dfa) : Type 0 where

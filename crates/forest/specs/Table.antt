@@ -17,11 +17,12 @@ abbrev pub Deferrable : Dfa → Option ℕ → ℕ → ℕ → Type 0
 Deferrable a None s byte = ⊥
 Deferrable a (Some p) s byte = a.next s byte ≡ a.next p byte
 
--- the byte rule: the first word gives the successor, or none matches and the byte is deferrable
+-- what the first word that matches a byte has to give: the successor; where none matches, the byte is deferrable
 abbrev pub Gives : Dfa → Forest → ℕ → ℕ → Option ℕ → Type 0
 Gives a f s byte (Some t) = t ≡ a.next s byte
 Gives a f s byte None = Deferrable a (f.parent s) s byte
 
+-- the byte rule: so it is for every state and byte
 abbrev pub ByteRule : Dfa → Forest → (ℕ → List ByteWord) → Type 0
 ByteRule a f words = (s byte : ℕ) → s < f.states → byte < 256 → Gives a f s byte (first_word (words s) byte)
 

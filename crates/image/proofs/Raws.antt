@@ -62,7 +62,3 @@ raws_again limit (f ∷ fs) all = λ i. raw_again limit f all.0 i ∷ raws_again
 pub entry_bytes_lem : (es : List Entry) → flat_map entry_bytes es ≡ flat_map raw_bytes (map raw_of es)
 entry_bytes_lem [] = refl
 entry_bytes_lem (e ∷ es) = ap (λ (l : List ℕ). entry_bytes e ++ l) (entry_bytes_lem es)
-
--- the fields of the entry at a place
-pub raw_at_lem : (es : List Entry) (i : ℕ) (e : Entry) → i < length es → e ≡ get_or es i e → raw_of e ≡ get_or (map raw_of es) i (raw_of e)
-raw_at_lem es i e lt is = ap raw_of is ∙ sym (get_or-map raw_of es i e (raw_of e) lt)

@@ -4,7 +4,8 @@ use lib.ListN.{length-map}
 use borrow.Author.Tests.{eqb-false}
 use Rattle.prefix.specs.declared.word.PrefixWord.{PrefixWord}
 use Rattle.prefix.specs.Words.{matches, first, Served, Shortest, Fewest}
-use Rattle.prefix.specs.Tree.{Tree, Mark, here, low, high, nowhere, lows, highs, fits, meets, least, deferred, emit}
+use Rattle.prefix.specs.Tree.{Tree, Mark, here, low, high, nowhere, least, emit}
+use Rattle.prefix.proofs.Meeting.{lows, highs, fits, meets, deferred}
 use Rattle.prefix.specs.Row.{build, subtree, dead, word, shortest}
 use Rattle.prefix.proofs.Halves.{false≢true}
 use Rattle.prefix.proofs.Lower.{both, lower}

@@ -2,6 +2,7 @@ pub mod Standing
 pub mod Made
 pub mod Parts
 pub mod Halves
+pub mod Meeting
 pub mod Lower
 pub mod Upper
 pub mod Bytes

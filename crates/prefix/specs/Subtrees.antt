@@ -43,11 +43,12 @@ abbrev pub Stands : List Node → List ℕ → ℕ → Tree ℕ → Type 0
 Stands nodes states i (leaf f d) = (n : Node) × (slice_get nodes i ≡ Some n) × Says states n (leaf f d) × (n.halves ≡ None)
 Stands nodes states i (node l r) = (n : Node) × (h : Halves) × (slice_get nodes i ≡ Some n) × Says states n (node l r) × (n.halves ≡ Some h) × Stands nodes states h.low l × Stands nodes states h.high r
 
--- how many nodes a tree has, and how many candidates they have together
+-- how many nodes a tree has
 abbrev pub nodes_in : Tree ℕ → ℕ
 nodes_in (leaf f d) = 1
 nodes_in (node l r) = nodes_in l + nodes_in r + 1
 
+-- how many candidates the nodes of a tree have together
 abbrev pub states_in : Tree ℕ → ℕ
 states_in (leaf f d) = 1
 states_in (node l r) = states_in l + states_in r + length (candidates nat_eq (node l r))

@@ -26,10 +26,7 @@ moved s next = record { listed = s.listed; capacity = s.capacity; position = nex
 
 -- ---- restart
 
--- the two ways through a restart
-pub restart_unloaded : (position : Option Position) → position ≡ None → RestartAnswer position position (Err NotLoaded)
-restart_unloaded position none = subst (λ (p : Option Position). RestartAnswer p p (Err NotLoaded)) (sym none) (refl, refl)
-
+-- a restart goes back to the start
 pub restart_loaded : (position : Option Position) (at : Position) → position ≡ Some at → RestartAnswer position (at_start at.start) (Ok tt)
 restart_loaded position at some = subst (λ (p : Option Position). RestartAnswer p (at_start at.start) (Ok tt)) (sym some) (refl, refl)
 
@@ -52,11 +49,7 @@ restart_drops s at some (filled a code bytes) keeps =
 
 -- ---- feed
 
--- a feed of a scanner that is not loaded
-pub feed_unloaded : (listed : List Entry) (position : Option Position) (piece : List ℕ) (buffer : List Mark) → position ≡ None → FeedAnswer listed position position piece buffer buffer (Err NotLoaded)
-feed_unloaded listed position piece buffer none = subst (λ (p : Option Position). FeedAnswer listed p p piece buffer buffer (Err NotLoaded)) (sym none) (refl, refl, refl)
-
--- a feed of one that is loaded
+-- a feed of a scanner that is loaded
 pub feed_loaded : (listed : List Entry) (position : Option Position) (at : Position) (piece : List ℕ) (buffer after : List Mark) (r : Result Progress Refusal) (code : StateCode) → position ≡ Some at
     → Outcome listed at.code piece buffer after r → code ≡ reached at.code r → FeedAnswer listed position (Some (record { start = at.start; code = code })) piece buffer after r
 feed_loaded listed position at piece buffer after r code some outcome is =
