@@ -55,10 +55,9 @@ mod tests {
         room: usize,
     ) -> Result<Result<Plan, Refusal>, AllocError> {
         let mut successors = Vec::new(heap);
-        for state in 0..states {
-            for byte in 0..256 {
-                successors.push(StateNo(successor(kind, state, byte)))?;
-            }
+        for place in 0..256 * states as usize {
+            let next = successor(kind, (place / 256) as u16, (place % 256) as u16);
+            successors.push(StateNo(next))?;
         }
         let classes = vec![in heap; 5; states as usize]?;
         let mut work = vec![in heap; 7; room]?;

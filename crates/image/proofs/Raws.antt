@@ -1,8 +1,7 @@
 -- An entry and its fields: each makes the other where no value has a bit under a star.
-use Rattle.std.proofs.Common.{◌≡◌, ℕ, ◌+◌, ◌<◌, false, ◌&&◌, ltb, List, [], ◌∷◌, ◌++◌, map, length, get_or, is_some, None, sym, refl, ap, ◌∙◌}
+use Rattle.std.proofs.Common.{◌≡◌, ℕ, ◌+◌, ◌<◌, false, ◌&&◌, ltb, List, [], ◌∷◌, ◌++◌, map, is_some, None, refl, ap}
 use lib.Bits.{bit_and}
 use Rattle.std.specs.List.{flat_map, AllByRecursion}
-use Rattle.std.proofs.lemmas.List.{get_or-map}
 use Rattle.std.proofs.lemmas.Bool.{and_parts, eqb-true, ltb-true}
 use Rattle.ternary.specs.declared.entry.Entry.{Entry}
 use Rattle.ternary.proofs.EntryLaws.{entry-same}

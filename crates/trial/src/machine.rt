@@ -24,8 +24,8 @@ impl Machine {
     {
         let mut successors = Vec::new(heap);
         for place in 0..256 * states as usize {
-            let [.., state, byte] = place.to_be_bytes();
-            successors.push(StateNo(successor(state as u16, byte)))?;
+            let next = successor((place / 256) as u16, (place % 256) as u8);
+            successors.push(StateNo(next))?;
         }
         Ok(Machine {
             start: StateNo(0),
