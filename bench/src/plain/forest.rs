@@ -1,5 +1,5 @@
 //! Who defers to whom, and the codes and shadows of the states, in the steps that the proved library takes: the counts
-//! from 256 down to 32, and for each the pairs in order.
+//! from 256 down to 32 that are met, and for each the pairs in order.
 
 use super::words::{Automaton, Refusal};
 
@@ -37,23 +37,27 @@ pub fn plan(automaton: &Automaton<'_>, work: &mut [u32]) -> Result<Plan, Refusal
     if work.len() < work_needed(states) {
         return Err(Refusal::WorkTooShort);
     }
-    count_shared(automaton, work);
-    let (labels, joins) = join_all(work, states);
+    let met = count_shared(automaton, work);
+    let (labels, joins) = join_all(work, &met, states);
     let loops = count_loops(automaton);
     let places = place(&joins, &roots(&labels, &loops));
     Ok(coded(&places).unwrap_or_else(|| flat(states)))
 }
 
-/// Counts for each two states the bytes for which both have the same successor.
-pub fn count_shared(automaton: &Automaton<'_>, shared: &mut [u32]) {
+/// Counts for each two states the bytes for which both have the same successor, and answers which counts are met.
+pub fn count_shared(automaton: &Automaton<'_>, shared: &mut [u32]) -> [bool; 257] {
     let states = automaton.states as usize;
+    let mut met = [false; 257];
     for s in 0..states {
         let row = automaton.row(s);
         for t in s + 1..states {
             let alike = row.iter().zip(automaton.row(t)).filter(|(x, y)| x == y);
-            shared[s * states + t] = alike.count() as u32;
+            let count = alike.count();
+            shared[s * states + t] = count as u32;
+            met[count] = true;
         }
     }
+    met
 }
 
 /// Counts for each state the bytes that lead to itself.
@@ -66,11 +70,15 @@ pub fn count_loops(automaton: &Automaton<'_>) -> Vec<usize> {
         .collect()
 }
 
-/// Joins the pairs that share 32 bytes or more, those that share more first. Answers the tree of each state and the joins.
-fn join_all(shared: &[u32], states: usize) -> (Vec<u16>, Vec<Join>) {
+/// Joins the pairs that share 32 bytes or more, those that share more first, for the counts that are met and until all
+/// states stand in one tree. Answers the tree of each state and the joins.
+fn join_all(shared: &[u32], met: &[bool; 257], states: usize) -> (Vec<u16>, Vec<Join>) {
     let mut labels: Vec<u16> = (0..states as u16).collect();
     let mut joins = Vec::new();
-    for bytes in (32..=256).rev() {
+    for bytes in (32..=256).rev().filter(|&bytes| met[bytes as usize]) {
+        if labels.iter().all(|&label| label == labels[0]) {
+            break;
+        }
         for s in 0..states {
             let row = &shared[s * states..(s + 1) * states];
             for t in s + 1..states {

@@ -1,6 +1,7 @@
 -- A grove before and after a join, and the turns of pairs. Assumes nothing.
-use Rattle.std.proofs.Common.{◌≡◌, ℕ, zero, suc, ◌+◌, ◌<◌, ◌≤◌, Bool, true, false, cond, ◌&&◌, ◌||◌, eqb, ltb, List, [], ◌∷◌, ◌++◌, length, get_or, set, replicate, Some, None, Option, sym, refl, ap, ◌∙◌, ap₂, inl, inr, add-one, arith, length-set}
+use Rattle.std.proofs.Common.{◌≡◌, ℕ, zero, suc, ◌+◌, ◌<◌, ◌≤◌, Bool, true, false, cond, ◌&&◌, ◌||◌, eqb, ltb, List, [], ◌∷◌, ◌++◌, length, take, get_or, set, replicate, Some, None, Option, sym, refl, ap, ◌∙◌, ap₂, inl, inr, add-one, arith, length-set}
 use Rattle.std.proofs.lemmas.List.{get_or-set_same, get_or-set_other, get_or-replicate, get_or_past, length-replicate}
+use Rattle.std.specs.List.{AllByRecursion}
 use Rattle.std.proofs.lemmas.Bool.{cases_eq, cases_lt, eq-eqb, ne_eqb, lt-ltb, le-ltb, cond-true, cond-false, true≢false, and_from, and_right}
 use Rattle.std.proofs.Math.Bool.{or_comm, or_assoc}
 use Rattle.std.proofs.lemmas.Grind.{common_steps}
@@ -10,7 +11,8 @@ use Rattle.forest.specs.Counting.{any}
 use Rattle.automaton.specs.Runs.{Dfa}
 use Rattle.forest.specs.Deferment.{Trees, shared, alone, join, kruskal, pairs_of, pairs_below, ranked, pair_is, trees_of}
 use Rattle.forest.specs.Labels.{label, joins, joins_at, Numbered, grown}
-use Rattle.forest.specs.Joining.{turn}
+use Rattle.forest.specs.Joining.{turn, OneTree}
+use Rattle.forest.specs.Sharing.{NonePair}
 use Rattle.forest.proofs.Counts.{any_same}
 
 -- a test that passes at one number more
@@ -69,6 +71,17 @@ tree_inside labels items u h = cond-true (ltb u (length labels)) (label labels u
 
 tree_outside : (labels : List StateNo) (items : List (Option Join)) (u : ℕ) → length labels ≤ u → (grown labels items).tree u ≡ u
 tree_outside labels items u h = cond-false (ltb u (length labels)) (label labels u) u (le-ltb u (length labels) h)
+
+-- the first n labels are one and the same, so that their states stand in one tree
+label_of_all : (labels : List StateNo) (n k first : ℕ) → AllByRecursion (λ l. l.0 ≡ first) (take n labels) → k < n → n ≤ length labels → label labels k ≡ first
+label_of_all [] n k first all h room = absurd (omega arith)
+label_of_all (l ∷ ls) zero k first all h room = absurd (omega arith)
+label_of_all (l ∷ ls) (suc n) zero first all h room = all.0
+label_of_all (l ∷ ls) (suc n) (suc k) first all h room = label_of_all ls n k first all.1 (omega arith) (omega arith)
+
+pub one_tree : (labels : List StateNo) (items : List (Option Join)) (n : ℕ) → n ≤ length labels → AllByRecursion (λ l. l.0 ≡ label labels 0) (take n labels) → OneTree (grown labels items) n
+one_tree labels items n room all k h =
+    tree_inside labels items k (omega arith) ∙ (label_of_all labels n k (label labels 0) all h room ∙ sym (tree_inside labels items 0 (omega arith)))
 
 -- a pair of one tree is passed over
 pub passes : (labels : List StateNo) (items : List (Option Join)) (s t : ℕ) → s < length labels → t < length labels → label labels t ≡ label labels s →
@@ -185,6 +198,51 @@ module _ (a : Dfa) (f g : Trees) (c s t : ℕ) (lt : s < t) (so_far : g ≡ krus
   row_skip e =
       so_far
       ∙ sym (row_more a f c s t ∙ cond-false (pair_shares a c s t) _ _ (and_right (ltb s t) (eqb (shared a s t) c) (ne_eqb (shared a s t) c e)))
+
+-- where no two states share c bytes, there are no such pairs
+none_of : (a : Dfa) (c s t : ℕ) → NonePair a c → t ≤ a.states → pairs_of a c s t ≡ []
+none_of a c s zero none h = refl
+none_of a c s (suc t) none h =
+    let off : pair_shares a c s t ≡ false = elim (cases_lt s t) [
+      | inl lt ↦ and_right (ltb s t) (eqb (shared a s t) c) (ne_eqb (shared a s t) c (none s t lt (omega arith)))
+      | inr le ↦ ap (λ (b : Bool). b && eqb (shared a s t) c) (le-ltb s t le)
+    ] in
+    ap₂ (λ (ps : List (ℕ × ℕ)) (b : Bool). ps ++ cond b ((s, t) ∷ []) []) (none_of a c s t none (omega arith)) off
+
+none_below : (a : Dfa) (c n : ℕ) → NonePair a c → pairs_below a c n ≡ []
+none_below a c zero none = refl
+none_below a c (suc s) none = ap₂ (λ (ps qs : List (ℕ × ℕ)). ps ++ qs) (none_below a c s none) (none_of a c s a.states none (omega arith))
+
+-- then nothing is joined
+pub none_joined : (a : Dfa) (f : Trees) (c : ℕ) → NonePair a c → f ≡ kruskal f (pairs_below a c a.states)
+none_joined a f c none = sym (ap (kruskal f) (none_below a c a.states none))
+
+either_same : (b : Bool) (f : Trees) → cond b f f ≡ f
+either_same true f = refl
+either_same false f = refl
+
+-- where all states stand in one tree, their pairs are passed over
+module _ (a : Dfa) (f : Trees) (c : ℕ) (one : OneTree f a.states) where
+  row_passed : (s t : ℕ) → s < a.states → t ≤ a.states → kruskal f (pairs_of a c s t) ≡ f
+  row_passed s zero hs ht = refl
+  row_passed s (suc t) hs ht =
+      let so_far = row_passed s t hs (omega arith) in
+      let same : f.tree s ≡ f.tree t = one s hs ∙ sym (one t (omega arith)) in
+      let passed : turn f (s, t) ≡ f = cond-true (eqb (f.tree s) (f.tree t)) f (join f s t) (eq-eqb (f.tree s) (f.tree t) same) in
+      ap (λ (k : ℕ). kruskal f (pairs_of a c s k)) (sym (add-one t))
+      ∙ row_more a f c s t
+      ∙ ap₂ (λ (g h : Trees). cond (pair_shares a c s t) g h) (ap (λ (g : Trees). turn g (s, t)) so_far ∙ passed) so_far
+      ∙ either_same (pair_shares a c s t) f
+
+  passed_below : (n : ℕ) → n ≤ a.states → kruskal f (pairs_below a c n) ≡ f
+  passed_below zero h = refl
+  passed_below (suc s) h =
+      kruskal-++ f (pairs_below a c s) (pairs_of a c s a.states)
+      ∙ ap (λ (g : Trees). kruskal g (pairs_of a c s a.states)) (passed_below s (omega arith))
+      ∙ row_passed s a.states (omega arith) (omega arith)
+
+  pub one_passed : f ≡ kruskal f (pairs_below a c a.states)
+  one_passed = sym (passed_below a.states (omega arith))
 
 -- the pairs of the smaller state s among the pairs that share c bytes
 pub rows_more : (a : Dfa) (f g : Trees) (c s : ℕ) → g ≡ kruskal f (pairs_below a c s) → kruskal g (pairs_of a c s a.states) ≡ kruskal f (pairs_below a c (s + 1))

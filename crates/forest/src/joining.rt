@@ -1,5 +1,6 @@
 // Joining states that share bytes into trees, in the order of the rule.
-ghost use Rattle.std.specs.Prelude.{◌≡◌, ℕ, ◌<◌, ◌≤◌, length, if◌then◌else◌, ◌==◌};
+ghost use Rattle.std.specs.Prelude.{◌≡◌, ℕ, ◌<◌, ◌≤◌, true, length, Decides, if◌then◌else◌, ◌==◌};
+ghost use Rattle.std.specs.List.{AllByRecursion};
 ghost use Rattle.forest.specs.Labels.{label, Numbered};
 
 use crate::sharing::ByteCounts;
@@ -26,7 +27,7 @@ impl Grove {
     ghost use Rattle.std.specs.Prelude.{◌+◌};
     ghost use Rattle.automaton.specs.Sound.{meant};
     ghost use Rattle.forest.specs.Deferment.{kruskal, pairs_of, pairs_below, trees_of, alone};
-    ghost use Rattle.forest.specs.Joining.{turn, trees_in};
+    ghost use Rattle.forest.specs.Joining.{turn, trees_in, OneTree};
 
     // At first each state is a tree of its own number, and nothing is joined.
     fn alone() -> Grove
@@ -67,13 +68,28 @@ impl Grove {
 
     // Joins the pairs that share so many bytes, the lower smaller state first, then the lower larger state.
     fn join_sharing(&mut self, counts: &ByteCounts<'_>, shared: u32)
+        requires few { shared ≤ 256 }
         ensures { let a = meant counts.now.automaton in
             trees_in self.new ≡ kruskal (trees_in self.old) (pairs_below a shared a.states) }
     {
+        if !counts.meets(shared) {
+            return;
+        }
+        if self.is_one_tree(counts.states()) {
+            return;
+        }
         // States have no slice behind their numbers.
         for s in 0..counts.states() {
             self.join_row(counts, shared, StateNo(s));
         }
+    }
+
+    // Whether the states below a number stand in one tree, so that a pair of them is passed over.
+    fn is_one_tree(&self, states: u16) -> bool
+        requires few { states ≤ 512 }
+        ensures { result ≡ true → OneTree (trees_in self.now) states }
+    {
+        are_all(&self.labels[..usize::from(states)], self.labels[0])
     }
 
     // The trees of an automaton: joins the pairs that share 32 bytes or more, those that share more first.
@@ -98,4 +114,11 @@ fn relabel(labels: &mut [StateNo], ended: StateNo, to: StateNo)
             *label = to;
         }
     }
+}
+
+// Whether all of some numbers of trees are this one.
+fn are_all(labels: &[StateNo], label: StateNo) -> bool
+    ensures { Decides result (AllByRecursion (λ l. l.0 ≡ label.0) labels.now) }
+{
+    labels.iter().all(|other| *other == label)
 }
