@@ -5,9 +5,10 @@ use crate::figures::machine_ab;
 use crate::findings::Subject;
 use crate::machine::Machine;
 use crate::parts::{Made, Parts, built, room};
+use crate::plan::{Plan, reckon};
 use crate::scan::Scanned;
 use crate::trial::Trial;
-use crate::verdict::{sufficient_entries, verdict};
+use crate::verdict::verdict;
 use crate::wrong::{Wrong, bad_automaton, malformed, mismatched, padded};
 use builder::build::build;
 use image::reader::unpack;
@@ -41,16 +42,18 @@ impl Case {
 
     // The case of an automaton with the image that is built for it, unless that would have too many entries.
     pub fn of(trial: &mut Trial, machine: Machine) -> Result<Option<Case>, AllocError> {
+        let plan = reckon(trial.heap, machine.automaton())?;
+        let entries = plan.entries(trial.heap, machine.automaton())?;
         match built(trial.heap, machine.automaton())? {
             Ok(image) => {
                 try_builds(trial, &machine, image.len())?;
                 let case = Case::over(trial, machine, image)?;
-                try_count(trial, &case)?;
+                try_plan(trial, &case, &plan, entries)?;
                 Ok(case)
             }
             Err(why) => {
                 add(&mut trial.findings.counts.refused_builds, 1);
-                let many = sufficient_entries(machine.automaton()) > MOST_ENTRIES;
+                let many = entries > MOST_ENTRIES;
                 trial.expect(Subject::Build, many && why == Refusal::TooManyEntries)?;
                 Ok(None)
             }
@@ -212,13 +215,20 @@ impl Case {
     }
 }
 
-// The image that was built has not more entries than suffice.
-fn try_count(trial: &mut Trial, case: &Option<Case>) -> Result<(), AllocError> {
+// The image that was built has the width, the codes and the number of entries that the rules say.
+fn try_plan(
+    trial: &mut Trial,
+    case: &Option<Case>,
+    plan: &Plan,
+    entries: usize,
+) -> Result<(), AllocError> {
     let Some(case) = case else {
         return Ok(());
     };
-    let most = sufficient_entries(case.machine.automaton());
-    trial.expect(Subject::Entries, case.parts.entries.len() <= most)
+    trial.expect(Subject::Width, case.parts.width as u32 == plan.width)?;
+    let codes = case.parts.codes.as_slice() == plan.codes.as_slice();
+    trial.expect(Subject::Codes, codes)?;
+    trial.expect(Subject::Entries, case.parts.entries.len() == entries)
 }
 
 // Builds with too little working memory, or into one byte too few, are refused.

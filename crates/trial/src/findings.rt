@@ -27,6 +27,10 @@ pub enum Subject {
     ChainOf18,
     // why a build is refused
     Build,
+    // how many bits a code of a built image has
+    Width,
+    // the codes of a built image
+    Codes,
     // how many entries a built image has
     Entries,
     // a build with too little working memory

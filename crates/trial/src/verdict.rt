@@ -1,5 +1,4 @@
-// Whether a table carries an automaton, with a first match that is coded apart from the library's, and how many entries
-// suffice for one.
+// Whether a table carries an automaton, with a first match that is coded apart from the library's.
 use crate::parts::Parts;
 use crate::scan::{class, next};
 use automaton::words::Automaton;
@@ -45,24 +44,4 @@ fn accepts(entry: &Entry, code: StateCode, byte: u8) -> bool {
     let code_differs = (entry.code_value() ^ code.0) & entry.code_mask();
     let byte_differs = (entry.byte_value() ^ byte) & entry.byte_mask();
     code_differs == 0 && byte_differs == 0
-}
-
-// So many entries suffice for an automaton's table: of each state one for its most frequent successor, behind one for
-// each byte that leads elsewhere.
-pub fn sufficient_entries(automaton: Automaton<'_>) -> usize {
-    let rows = automaton.successors.chunks(256);
-    rows.fold(0, |sum: usize, row| sum.saturating_add(sufficient_for(row)))
-}
-
-// So many entries suffice for a row of successors.
-fn sufficient_for(row: &[StateNo]) -> usize {
-    let most = row.iter().map(|next| frequency(row, *next)).max();
-    row.len()
-        .saturating_sub(most.unwrap_or(0))
-        .saturating_add(1)
-}
-
-// How many bytes of a row lead to a state.
-fn frequency(row: &[StateNo], state: StateNo) -> usize {
-    row.iter().filter(|next| **next == state).count()
 }
