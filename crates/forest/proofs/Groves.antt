@@ -72,16 +72,25 @@ tree_inside labels items u h = cond-true (ltb u (length labels)) (label labels u
 tree_outside : (labels : List StateNo) (items : List (Option Join)) (u : ℕ) → length labels ≤ u → (grown labels items).tree u ≡ u
 tree_outside labels items u h = cond-false (ltb u (length labels)) (label labels u) u (le-ltb u (length labels) h)
 
--- the first n labels are one and the same, so that their states stand in one tree
+-- the first n labels are one and the same exactly where their states stand in one tree
 label_of_all : (labels : List StateNo) (n k first : ℕ) → AllByRecursion (λ l. l.0 ≡ first) (take n labels) → k < n → n ≤ length labels → label labels k ≡ first
 label_of_all [] n k first all h room = absurd (omega arith)
 label_of_all (l ∷ ls) zero k first all h room = absurd (omega arith)
 label_of_all (l ∷ ls) (suc n) zero first all h room = all.0
 label_of_all (l ∷ ls) (suc n) (suc k) first all h room = label_of_all ls n k first all.1 (omega arith) (omega arith)
 
-pub one_tree : (labels : List StateNo) (items : List (Option Join)) (n : ℕ) → n ≤ length labels → AllByRecursion (λ l. l.0 ≡ label labels 0) (take n labels) → OneTree (grown labels items) n
-one_tree labels items n room all k h =
-    tree_inside labels items k (omega arith) ∙ (label_of_all labels n k (label labels 0) all h room ∙ sym (tree_inside labels items 0 (omega arith)))
+all_of_labels : (labels : List StateNo) (n first : ℕ) → ((k : ℕ) → k < n → label labels k ≡ first) → n ≤ length labels → AllByRecursion (λ l. l.0 ≡ first) (take n labels)
+all_of_labels [] zero first each room = tt
+all_of_labels [] (suc n) first each room = absurd (omega arith)
+all_of_labels (l ∷ ls) zero first each room = tt
+all_of_labels (l ∷ ls) (suc n) first each room = (each 0 (omega arith), all_of_labels ls n first (λ k h. each (suc k) (omega arith)) (omega arith))
+
+module _ (labels : List StateNo) (items : List (Option Join)) (n : ℕ) (room : n ≤ length labels) where
+  pub one_tree : AllByRecursion (λ l. l.0 ≡ label labels 0) (take n labels) → OneTree (grown labels items) n
+  one_tree all k h = tree_inside labels items k (omega arith) ∙ (label_of_all labels n k (label labels 0) all h room ∙ sym (tree_inside labels items 0 (omega arith)))
+
+  pub one_label : OneTree (grown labels items) n → AllByRecursion (λ l. l.0 ≡ label labels 0) (take n labels)
+  one_label one = all_of_labels labels n (label labels 0) (λ k h. sym (tree_inside labels items k (omega arith)) ∙ (one k h ∙ tree_inside labels items 0 (omega arith))) room
 
 -- a pair of one tree is passed over
 pub passes : (labels : List StateNo) (items : List (Option Join)) (s t : ℕ) → s < length labels → t < length labels → label labels t ≡ label labels s →

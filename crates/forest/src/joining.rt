@@ -1,5 +1,5 @@
 // Joining states that share bytes into trees, in the order of the rule.
-ghost use Rattle.std.specs.Prelude.{◌≡◌, ℕ, ◌<◌, ◌≤◌, true, length, Decides, if◌then◌else◌, ◌==◌};
+ghost use Rattle.std.specs.Prelude.{◌≡◌, ℕ, ◌<◌, ◌≤◌, length, Decides, if◌then◌else◌, ◌==◌};
 ghost use Rattle.std.specs.List.{AllByRecursion};
 ghost use Rattle.forest.specs.Labels.{label, Numbered};
 
@@ -87,7 +87,7 @@ impl Grove {
     // Whether the states below a number stand in one tree, so that a pair of them is passed over.
     fn is_one_tree(&self, states: u16) -> bool
         requires few { states ≤ 512 }
-        ensures { result ≡ true → OneTree (trees_in self.now) states }
+        ensures { Decides result (OneTree (trees_in self.now) states) }
     {
         are_all(&self.labels[..usize::from(states)], self.labels[0])
     }

@@ -17,4 +17,4 @@ returns-then-not-meets c =
 pub returns-then-is_one_tree : goal.returns-then-is_one_tree
 returns-then-is_one_tree c =
     let yes : c.is_one_tree.result ≡ true = search rules in
-    one_passed (meant c.args.counts.now.automaton) (trees_in c.args.self.now) c.args.shared (rw c.states.ensures.value at c.is_one_tree.ensures yes)
+    one_passed (meant c.args.counts.now.automaton) (trees_in c.args.self.now) c.args.shared (rw c.states.ensures.value at c.is_one_tree.ensures.0 yes)
