@@ -1,5 +1,5 @@
 -- A load by an unpacked image, told of the image's bytes.
-use Rattle.std.proofs.Common.{◌≡◌, ℕ, ◌<◌, ◌≤◌, min, List, [], length, get_or, Some, None, ap, ◌∙◌, arith, length-drop}
+use Rattle.std.proofs.Common.{◌≡◌, ℕ, ◌+◌, ◌<◌, ◌≤◌, min, List, [], length, get_or, Some, None, sym, ap, ◌∙◌, arith, length-drop}
 use Rattle.std.specs.List.{slice_get}
 use Rattle.std.proofs.lemmas.Option.{slice_get-get_or, slice_get_within}
 use Rattle.image.proofs.Items.{left_none}
@@ -35,6 +35,10 @@ module _ (a : Handed) (bytes : List ℕ) (image : Image) (ok : Acceptable a byte
   -- no more than that
   pub suffices : (size capacity : ℕ) → capacity ≡ min size 65535 → h.entries ≤ capacity → length (decode bytes).entries ≤ size
   suffices size capacity told room = omega (arith, count, few_told)
+
+  -- as many places are free as the image's entries leave
+  pub left_free : (free size : ℕ) → free + length (parts_of image).entries ≡ size → free + length (decode bytes).entries ≡ size
+  left_free free size told = ap (λ (p : Parts). free + length p.entries) (sym parts) ∙ told
 
   -- the start state has a code
   pub start_coded : slice_get (parts_of image).codes a.start ≡ None → ⊥

@@ -1,8 +1,9 @@
-ghost use Rattle.std.specs.Prelude.{◌≡◌, ◌≤◌, true, length, is_err, None, Err, ◌≢◌};
+ghost use Rattle.std.specs.Prelude.{◌≡◌, ◌+◌, ◌≤◌, true, length, is_err, None, Err, OnOk, ◌≢◌};
 ghost use Rattle.ternary.specs.declared.refusal.Refusal.{Refusal};
 ghost use Rattle.ternary.specs.Refusals.{number};
 ghost use Rattle.automaton.specs.Limits.{handed};
 ghost use Rattle.image.specs.Calls.{parts_of};
+ghost use Rattle.image.specs.Format.{decode};
 ghost use Rattle.scanner.specs.Book.{blank, Loads, Feeds, Restarts};
 ghost use Rattle.scanner.specs.Scanners.{seen, reached, LoadAnswer, FeedAnswer, RestartAnswer, done_told, fed_told, Keeps, KeepsOn};
 
@@ -45,6 +46,7 @@ impl<C: Card> Scanner<C> {
     pub fn load(&mut self, automaton: Automaton<'_>, image: &[u8]) -> Result<(), Refusal>
         ensures refused { is_err result ≡ true → self.new ≡ self.old }
         ensures answer { LoadAnswer (handed automaton.entry) image.now (seen C.entries C.size self.old) (seen C.entries C.size self.new) result }
+        ensures free { OnOk result (C.free self.new.card + length (decode image.now).entries ≡ C.size self.old.card) }
         ensures keeps { KeepsOn (Loads (C.size self.old.card) (handed automaton.entry) image.now) (seen C.entries C.size self.old) (done_told result) (seen C.entries C.size self.new) }
     {
         check(automaton, image)?;
@@ -98,6 +100,7 @@ fn fill<C: Card>(card: &mut C, image: Image<'_>)
     requires few { length (parts_of image).entries ≤ 4096 }
     requires room { length (parts_of image).entries ≤ C.size card.old }
     ensures listed { C.entries card.new ≡ (parts_of image.entry).entries }
+    ensures free { C.free card.new + length (parts_of image.entry).entries ≡ C.size card.old }
     ensures capacity { C.size card.new ≡ C.size card.old }
 {
     card.clear();

@@ -7,8 +7,7 @@ pub returns : goal.returns
 unfolding trees_in
 returns c =
     let told = rw c.from.ensures at c.are_all.ensures in
-    let grove = c.args.self.now in
-    (
+    let grove = c.args.self.now in (
       λ yes. one_tree grove.labels grove.joins c.args.states (omega arith) (told.0 yes),
       λ one. told.1 (one_label grove.labels grove.joins c.args.states (omega arith) one),
     )

@@ -1,11 +1,13 @@
-use Rattle.std.proofs.Common.{Err, sym, refl, ap, ◌∙◌, subst}
+use Rattle.std.proofs.Common.{◌≡◌, ◌+◌, Err, Result, OnOk, length, sym, refl, ap, ◌∙◌, subst}
 use Rattle.std.proofs.lemmas.Result.{err_from_is_err_and}
 use Rattle.std.proofs.lemmas.Bool.{false≢true}
 use Rattle.automaton.specs.Limits.{handed}
+use Rattle.image.specs.Format.{decode}
+use Rattle.ternary.specs.declared.refusal.Refusal.{Refusal}
 use Rattle.ternary.specs.declared.refusal.Refusal.TheVariants.{CardTooSmall}
 use Rattle.scanner.specs.Book.{unchecked}
 use Rattle.scanner.specs.Scanners.{seen, LoadAnswer}
-use Rattle.scanner.proofs.Entering.{exceeds, start_coded, entered}
+use Rattle.scanner.proofs.Entering.{exceeds, start_coded, left_free, entered}
 use Rattle.scanner.proofs.Turns.{load_declines, load_enters}
 use Rattle.scanner.proofs.scanner.Scanner.load.Goals as goal
 
@@ -19,6 +21,7 @@ returns-in_err-check g c =
     record {
       refused = λ e. refl;
       answer = subst (LoadAnswer a c.args.image.now s s) (sym err) why;
+      free = subst (λ (r : Result (Unit {0}) Refusal). OnOk r (g.C.Card.free c.args.self.now.card + length (decode c.args.image.now).entries ≡ g.C.Card.size c.args.self.now.card)) (sym err) tt;
       keeps = load_declines s a c.args.image.now c.from_residual.result _ err why;
     }
 
@@ -30,6 +33,7 @@ returns-then-header-capacity g c =
     record {
       refused = λ e. refl;
       answer = why;
+      free = tt;
       keeps = load_declines s a c.args.image.now (Err CardTooSmall) CardTooSmall refl why;
     }
 
@@ -46,5 +50,6 @@ returns g c =
     record {
       refused = λ e. absurd (false≢true e);
       answer = done;
+      free = left_free a c.args.image.now c.in_ok-image.image c.in_ok-check.ensures.answer c.in_ok-image.ensures c.header.result c.header.ensures _ _ c.fill.ensures.free;
       keeps = load_enters before _ a c.args.image.now done;
     }
