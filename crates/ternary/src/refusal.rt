@@ -10,7 +10,7 @@ use std::fmt;
 pub enum Refusal {
     // The automaton breaks a limit or a buffer length.
     BadAutomaton,
-    // A build has too little working memory.
+    // A build or a plan has too little working memory.
     WorkTooShort,
     // An output buffer is too short.
     OutputTooShort,

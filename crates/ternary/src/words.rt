@@ -25,7 +25,7 @@ impl From<StateNo> for usize {
     }
 }
 
-// The name by which a table knows a state. No function makes a state's code out of its number.
+// The name by which a table knows a state: not its number, and found only in an image's code list or in a plan.
 #[derive(Clone, Copy, PartialEq, Eq, Default, Debug)]
 pub struct StateCode(pub u16);
 

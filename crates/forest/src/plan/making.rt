@@ -12,7 +12,7 @@ use crate::plan::{FIXED_WORK, Placement, Plan};
 use automaton::sound::SoundAutomaton;
 use automaton::words::Automaton;
 use ternary::refusal::Refusal;
-use ternary::words::StateCode;
+use ternary::words::{StateCode, StateNo};
 
 impl Plan {
     // The plan of an automaton; the shared counts of its states are worked out in the lent numbers.
@@ -40,7 +40,8 @@ fn planned(automaton: SoundAutomaton<'_>, counts: &mut [u32]) -> Plan
     joined.plan().unwrap_or_else(|| flat(states))
 }
 
-// The plan of so many states that are all roots: their codes are their numbers.
+// The plan of so many states that are all roots. A root's code is its number among the roots, and all states are roots in
+// state order.
 fn flat(states: u16) -> Plan
     requires { states ≤ 512 }
     ensures { (states_of result ≡ states) × Planned (numbered states (λ s. None) (λ s. 0)) result }
@@ -49,10 +50,10 @@ fn flat(states: u16) -> Plan
     let mask = shadow_mask(width, width);
     let places = each_state(
         states,
-        |s| Placement {
+        |StateNo(root)| Placement {
             parent: None,
             depth: 0,
-            code: StateCode(s.0),
+            code: StateCode(root),
             mask,
         },
     );
