@@ -76,14 +76,7 @@ pub fn builds() {
         );
         times.push((what, best.map(nanoseconds)));
     }
-    heading("Build", "ours", "plain");
-    for (what, [mine, plain, _]) in &times {
-        line(what, *mine, *plain, Bar::AtMost(1.3));
-    }
-    heading("Build, beside plain Rust that sorts the pairs", "ours", "plain, sorting");
-    for (what, [mine, _, sorting]) in &times {
-        line(what, *mine, *sorting, Bar::None);
-    }
+    tables("Build", "plain Rust that sorts the pairs", "sorting", &times);
 }
 
 /// A check of a built image.
@@ -110,13 +103,19 @@ pub fn checks() {
         let what = format!("{what}: {} states, {entries} entries", automaton.states);
         times.push((what, best.map(nanoseconds)));
     }
-    heading("Check", "ours", "plain");
-    for (what, [mine, plain, _]) in &times {
+    let other = "plain Rust that searches all entries for each byte";
+    tables("Check", other, "straight", &times);
+}
+
+/// The times of a call beside plain Rust, with a bar, and beside a second plain form of it, with none.
+fn tables(call: &str, other: &str, short: &str, times: &[(String, [f64; 3])]) {
+    heading(call, "ours", "plain");
+    for (what, [mine, plain, _]) in times {
         line(what, *mine, *plain, Bar::AtMost(1.3));
     }
-    heading("Check, beside plain Rust that searches all entries for each byte", "ours", "plain, straight");
-    for (what, [mine, _, straight]) in &times {
-        line(what, *mine, *straight, Bar::None);
+    heading(&format!("{call}, beside {other}"), "ours", &format!("plain, {short}"));
+    for (what, [mine, _, second]) in times {
+        line(what, *mine, *second, Bar::None);
     }
 }
 
