@@ -2,7 +2,7 @@
 use Rattle.std.specs.Prelude.{◌≡◌, ℕ, ◌<◌, ◌≤◌, List, map, length, take, Some, None, Ok, Err, Option, Result}
 use Rattle.ternary.specs.declared.entry.Entry.{Entry}
 use Rattle.ternary.specs.declared.refusal.Refusal.{Refusal}
-use Rattle.ternary.specs.declared.refusal.Refusal.TheVariants.{BadAutomaton, WorkTooShort, OutputTooShort, TooManyEntries, CardFull, CardTooSmall, NoEntry, NotLoaded, PieceTooLong, Malformed, Mismatch, WrongEntry}
+use Rattle.ternary.specs.declared.refusal.Refusal.TheVariants.{BadAutomaton, WorkTooShort, OutputTooShort, TooManyEntries, CardFull, CardTooSmall, NoEntry, NotLoaded, PieceTooLong, Malformed, Mismatch, WrongEntry, WrongPair, OutsideBuffer, BadCoach, BytesWaiting, BadTurn, WrongPattern, PatternsTooLarge, TooManySets, CodesDiffer}
 use Rattle.ternary.specs.declared.words.Mark.{Mark}
 use Rattle.ternary.specs.declared.words.Progress.{Progress}
 use Rattle.ternary.specs.declared.words.StateCode.{StateCode}
@@ -58,6 +58,15 @@ left_at code PieceTooLong = code
 left_at code (Malformed at) = code
 left_at code Mismatch = code
 left_at code (WrongEntry s b) = code
+left_at code (WrongPair s b c) = code
+left_at code OutsideBuffer = code
+left_at code BadCoach = code
+left_at code BytesWaiting = code
+left_at code BadTurn = code
+left_at code (WrongPattern pattern place) = code
+left_at code PatternsTooLarge = code
+left_at code TooManySets = code
+left_at code CodesDiffer = code
 
 -- the code that a walk from a code leaves a scanner at
 abbrev pub reached : StateCode → Result Progress Refusal → StateCode

@@ -2,7 +2,7 @@
 use Rattle.std.specs.Prelude.{◌≡◌, ℕ, cond, List, [], ◌∷◌, ◌++◌, codes, decimal, Some, None, Ok, Err, Option, Result}
 use Rattle.ternary.specs.declared.words.Progress.{Progress}
 use Rattle.ternary.specs.declared.refusal.Refusal.{Refusal}
-use Rattle.ternary.specs.declared.refusal.Refusal.TheVariants.{BadAutomaton, WorkTooShort, OutputTooShort, TooManyEntries, CardFull, CardTooSmall, NoEntry, NotLoaded, PieceTooLong, Malformed, Mismatch, WrongEntry}
+use Rattle.ternary.specs.declared.refusal.Refusal.TheVariants.{BadAutomaton, WorkTooShort, OutputTooShort, TooManyEntries, CardFull, CardTooSmall, NoEntry, NotLoaded, PieceTooLong, Malformed, Mismatch, WrongEntry, WrongPair, OutsideBuffer, BadCoach, BytesWaiting, BadTurn, WrongPattern, PatternsTooLarge, TooManySets, CodesDiffer}
 
 -- the number of a refusal
 abbrev pub number : Refusal → ℕ
@@ -18,12 +18,21 @@ number PieceTooLong = 9
 number (Malformed at) = 10
 number Mismatch = 11
 number (WrongEntry s b) = 12
+number (WrongPair s b c) = 12
+number OutsideBuffer = 14
+number BadCoach = 16
+number BytesWaiting = 17
+number BadTurn = 18
+number (WrongPattern pattern place) = 19
+number PatternsTooLarge = 20
+number TooManySets = 21
+number CodesDiffer = 22
 
 -- the values of a walk's answer: taken, marks, code, 1 where marks stopped it and else 0, searches
 abbrev pub progress_values : Progress → List ℕ
 progress_values p = p.taken ∷ p.marks ∷ p.code.0 ∷ cond p.marks_full 1 0 ∷ p.searches ∷ []
 
--- the values that a refusal carries: the answer of a walk, an offset, or a state and a byte
+-- the values that a refusal carries: the answer of a walk, an offset, or a state and one byte or two
 abbrev pub values : Refusal → List ℕ
 values BadAutomaton = []
 values WorkTooShort = []
@@ -37,6 +46,15 @@ values PieceTooLong = []
 values (Malformed at) = at ∷ []
 values Mismatch = []
 values (WrongEntry s b) = s.0 ∷ b ∷ []
+values (WrongPair s b c) = s.0 ∷ b ∷ c ∷ []
+values OutsideBuffer = []
+values BadCoach = []
+values BytesWaiting = []
+values BadTurn = []
+values (WrongPattern pattern place) = pattern ∷ place ∷ []
+values PatternsTooLarge = []
+values TooManySets = []
+values CodesDiffer = []
 
 -- the offset at which a file or an image is malformed
 abbrev pub offset : Refusal → Option ℕ
@@ -52,6 +70,15 @@ offset PieceTooLong = None
 offset (Malformed at) = Some at
 offset Mismatch = None
 offset (WrongEntry s b) = None
+offset (WrongPair s b c) = None
+offset OutsideBuffer = None
+offset BadCoach = None
+offset BytesWaiting = None
+offset BadTurn = None
+offset (WrongPattern pattern place) = None
+offset PatternsTooLarge = None
+offset TooManySets = None
+offset CodesDiffer = None
 
 -- a refusal is known by a number and by the values that it carries
 abbrev pub KnownBy : Refusal → ℕ → List ℕ → Type 0

@@ -32,6 +32,26 @@ pub enum Refusal {
     Mismatch,
     // A table decides otherwise than its automaton: the lowest state, then the lowest byte, where it does.
     WrongEntry(StateNo, u8),
+    // A two-byte table decides otherwise than its automaton: the lowest state, then the lowest first byte, then the lowest
+    // second byte, where it does.
+    WrongPair(StateNo, u8, u8),
+    // A part that is named by place and length leaves its buffer.
+    OutsideBuffer,
+    // No coach has the number, or it is open where it must not be, or the reverse.
+    BadCoach,
+    // Bytes of a coach are waiting already.
+    BytesWaiting,
+    // A turn's quota is out of bounds, its marks are fewer, or the bytes that it comes to are not in its buffer.
+    BadTurn,
+    // A pattern text breaks the syntax: the number of the pattern, counted from 1, and the place in it of the first token
+    // that cannot follow those before it, or of its end.
+    WrongPattern(usize, usize),
+    // There are no patterns, or over 32, over 256 positions in all, or parentheses over 32 deep.
+    PatternsTooLarge,
+    // Over 512 sets of positions can be reached.
+    TooManySets,
+    // The two images of a load differ in the code width or in the code of a state.
+    CodesDiffer,
 }
 
 impl Refusal {
@@ -52,6 +72,15 @@ impl Refusal {
             Refusal::Malformed(_) => 10,
             Refusal::Mismatch => 11,
             Refusal::WrongEntry(_, _) => 12,
+            Refusal::WrongPair(_, _, _) => 12,
+            Refusal::OutsideBuffer => 14,
+            Refusal::BadCoach => 16,
+            Refusal::BytesWaiting => 17,
+            Refusal::BadTurn => 18,
+            Refusal::WrongPattern(_, _) => 19,
+            Refusal::PatternsTooLarge => 20,
+            Refusal::TooManySets => 21,
+            Refusal::CodesDiffer => 22,
         }
     }
 
