@@ -1,37 +1,16 @@
 -- The laws over whole runs, from the book's turns.
-use Rattle.std.proofs.Common.{◌≡◌, ℕ, zero, suc, ◌+◌, ◌<◌, true, false, cond, eqb, List, [], ◌∷◌, ◌++◌, length, get_or, take, Some, None, vec_items, Vec, sym, refl, ap, ◌∙◌, subst, add-zero, add_assoc, zero-add, arith}
-use Rattle.std.proofs.lemmas.List.{append_assoc, map-append}
+use Rattle.std.proofs.Common.{◌≡◌, ℕ, zero, suc, ◌<◌, List, [], ◌∷◌, ◌++◌, length, get_or, take, Some, None, vec_items, Vec, sym, refl, ap, ◌∙◌, subst, arith}
 use Rattle.std.specs.declared.alloc.Global.{Global}
-use Rattle.ternary.specs.Marks.{Marked, mark}
-use Rattle.automaton.specs.Runs.{Dfa, reach, marks, raised}
+use Rattle.ternary.specs.Marks.{Marked}
+use Rattle.automaton.specs.Runs.{reach, marks, raised}
+use Rattle.automaton.proofs.Marking.{marks_behind}
 use Rattle.table.specs.Acceptance.{beyond, malformed, differs, wrong}
 use Rattle.scanner.specs.Book.{Told, declined, Book, blank, filled, unchecked, too_small, Loads, declines, enters, Feeds, takes, Restarts, drops}
-use Rattle.commission.specs.declared.words.Filing.{Filing}
+use Rattle.table.specs.declared.filing.Filing.{Filing}
+use Rattle.table.specs.Filed.{filed}
 use Rattle.commission.specs.declared.words.Call.{Call}
 use Rattle.commission.specs.declared.words.Call.TheVariants.{Load, Feed, Restart}
-use Rattle.commission.specs.Journeys.{filed, Turn, Turns, done, then, BookSays, Log, nothing, entered, logged, MarksOf, MarksAreTheJourneys, NeverNoEntry}
-
--- the marks of two lists in a row
-pub marks-++ : (a : Dfa) (s place : ℕ) (xs ys : List ℕ) → marks a s place (xs ++ ys) ≡ marks a s place xs ++ marks a (reach a s xs) (place + length xs) ys
-marks-++ a s place [] ys = ap (λ n. marks a s n ys) (sym (add-zero place))
-marks-++ a s place (x ∷ xs) ys =
-    let at : place + 1 + length xs ≡ place + suc (length xs) = omega arith in
-    ap (λ (ms : List Marked). mark place (a.class (a.next s x)) ++ ms)
-    (marks-++ a (a.next s x) (place + 1) xs ys ∙ ap (λ n. marks a (a.next s x) (place + 1) xs ++ marks a (reach a (a.next s x) xs) n ys) at)
-    ∙ sym (append_assoc (mark place (a.class (a.next s x))) (marks a (a.next s x) (place + 1) xs) (marks a (reach a (a.next s x) xs) (place + suc (length xs)) ys))
-
-raised-mark : (n place class : ℕ) → mark (n + place) class ≡ raised n (mark place class)
-raised-mark n place class =
-    elim (eqb class 0) as (λ t. cond t [] ((n + place, class) ∷ []) ≡ raised n (cond t [] ((place, class) ∷ []))) [ true ↦ refl | false ↦ refl ]
-
--- marks further on are marks raised
-pub marks-raised : (a : Dfa) (n s place : ℕ) (bs : List ℕ) → marks a s (n + place) bs ≡ raised n (marks a s place bs)
-marks-raised a n s place [] = refl
-marks-raised a n s place (b ∷ bs) =
-    let t = a.next s b in
-    ap (λ (ms : List Marked). mark (n + place) (a.class t) ++ ms) (ap (λ p. marks a t p bs) (add_assoc n place 1) ∙ marks-raised a n t (place + 1) bs)
-    ∙ ap (λ (ms : List Marked). ms ++ raised n (marks a t (place + 1) bs)) (raised-mark n place (a.class t))
-    ∙ sym (map-append (λ (m : Marked). (n + m.0, m.1)) (mark place (a.class t)) (marks a t (place + 1) bs))
+use Rattle.commission.specs.Journeys.{Turn, Turns, done, then, BookSays, Log, nothing, entered, logged, MarksOf, MarksAreTheJourneys, NeverNoEntry}
 
 -- one turn more
 pub turns_push : {capacity : ℕ} {book next after : Book} {calls : List Call} {ts : List Told} (call : Call) (t : Told)
@@ -68,8 +47,7 @@ feeds_agree log piece slots t (takes {a} {code} {bytes} n short most) agrees =
       ap (λ (bs : List ℕ). bs ++ new) agrees.1,
       ap (λ (ms : List Marked). ms ++ raised (length log.bytes) (marks a s 0 new)) agrees.2
           ∙ ap (λ (bs : List ℕ). marks a a.start 0 bytes ++ raised (length bs) (marks a s 0 new)) agrees.1
-          ∙ ap (λ (ms : List Marked). marks a a.start 0 bytes ++ ms) (sym (marks-raised a (length bytes) s 0 new) ∙ ap (λ n. marks a s n new) (add-zero (length bytes) ∙ sym (zero-add (length bytes))))
-          ∙ sym (marks-++ a a.start 0 bytes new),
+          ∙ marks_behind a bytes new,
     )
 
 turn-agrees : (capacity : ℕ) (book after : Book) (log : Log) (call : Call) (t : Told) → Turn capacity call book t after → Agrees log book → Agrees (entered log call t) after

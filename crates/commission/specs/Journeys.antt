@@ -2,10 +2,10 @@
 use Rattle.std.specs.Prelude.{◌≡◌, ℕ, ◌<◌, Bool, true, List, [], ◌∷◌, ◌++◌, map, length, take, Some, None, Ok, Err, Result, vec_items, Option, ◌≢◌, slice_index_or}
 use Rattle.ternary.specs.Marks.{Marked, marked}
 use Rattle.ternary.specs.Refusals.{number, values}
-use Rattle.automaton.specs.Limits.{Handed, dfa}
+use Rattle.automaton.specs.Limits.{dfa}
 use Rattle.automaton.specs.Runs.{Dfa, marks, raised}
 use Rattle.scanner.specs.Book.{Told, declined, accepted, fed, Book, blank, Loads, Feeds, Restarts}
-use Rattle.commission.specs.declared.words.Filing.{Filing}
+use Rattle.table.specs.Filed.{filed}
 use Rattle.commission.specs.declared.words.Call.{Call}
 use Rattle.commission.specs.declared.words.Call.TheVariants.{Load, Feed, Restart}
 use Rattle.commission.specs.declared.words.Done.{Done}
@@ -13,10 +13,6 @@ use Rattle.commission.specs.declared.words.Done.TheVariants.{Accepted, Fed}
 use Rattle.ternary.specs.declared.refusal.Refusal.{Refusal}
 
 -- ---- the journey book over a run
-
--- the automaton that is filed
-abbrev pub filed : Filing → Handed
-filed f = record { states = f.states; start = f.start.0; successors = vec_items f.successors; classes = vec_items f.classes }
 
 -- what a call that is not declined tells
 abbrev pub told_done : Done → Told

@@ -3,10 +3,11 @@ ghost use Rattle.scanner.specs.Scanners.{seen, KeepsOn};
 ghost use Rattle.commission.specs.declared.words.Call.TheVariants.{Load, Feed, Restart};
 ghost use Rattle.commission.specs.Journeys.{told, Turn, Ran};
 
-use crate::words::{Answer, Call, Done, Filing};
+use crate::words::{Answer, Call, Done};
 use card::rules::Card;
 use scanner::scanner::Scanner;
 use std::alloc::{AllocError, Global};
+use table::filing::Filing;
 use ternary::words::Mark;
 
 // Makes the calls one after another on a new scanner over the card, and puts their answers behind those that are there.

@@ -1,35 +1,7 @@
-ghost use Rattle.std.specs.Prelude.{◌≡◌};
-ghost use Rattle.automaton.specs.Limits.{handed};
-ghost use Rattle.commission.specs.Journeys.{filed};
-
-use automaton::words::Automaton;
 use std::alloc::AllocError;
+use table::filing::Filing;
 use ternary::refusal::Refusal;
-use ternary::words::{Mark, Progress, StateNo};
-
-// An automaton with the bytes of an image for it, as an operator files them.
-#[derive(Clone, Drop)]
-pub struct Filing {
-    pub states: u16,
-    pub start: StateNo,
-    pub successors: Vec<StateNo>,
-    pub classes: Vec<u8>,
-    pub image: Vec<u8>,
-}
-
-impl Filing {
-    // The automaton, as it is handed to calls.
-    pub fn automaton(&self) -> Automaton<'_>
-        ensures { handed result ≡ filed self.now }
-    {
-        Automaton {
-            states: self.states,
-            start: self.start,
-            successors: self.successors.as_slice(),
-            classes: self.classes.as_slice(),
-        }
-    }
-}
+use ternary::words::{Mark, Progress};
 
 // One call of a scanner, with all that is passed to it: what is loaded; a piece and how many mark slots there are for
 // it; or a restart.

@@ -7,10 +7,11 @@ use anyhow::Context;
 use automaton::file::read;
 use card::list::ListCard;
 use commission::commission::commission;
-use commission::words::{Answer, Call, Done, Filing, Report};
+use commission::words::{Answer, Call, Done, Report};
 use forest::plan::FIXED_WORK;
 use std::alloc::{AllocError, Global};
 use std::{env, fs, io};
+use table::filing::Filing;
 use ternary::entry::Entry;
 use ternary::words::{MOST_ENTRIES, MOST_STATES, StateNo};
 

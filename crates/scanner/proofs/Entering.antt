@@ -1,5 +1,5 @@
 -- A load by an unpacked image, told of the image's bytes.
-use Rattle.std.proofs.Common.{◌≡◌, ℕ, ◌+◌, ◌<◌, ◌≤◌, min, List, [], length, get_or, Some, None, sym, ap, ◌∙◌, arith, length-drop}
+use Rattle.std.proofs.Common.{◌≡◌, ℕ, ◌+◌, ◌<◌, ◌≤◌, min, List, [], length, get_or, Some, None, Option, sym, ap, ◌∙◌, arith, length-drop}
 use Rattle.std.specs.List.{slice_get}
 use Rattle.std.proofs.lemmas.Option.{slice_get-get_or, slice_get_within}
 use Rattle.image.proofs.Items.{left_none}
@@ -12,7 +12,8 @@ use Rattle.image.specs.Format.{Parts, decode}
 use Rattle.image.proofs.Ruled.{ruled}
 use Rattle.table.specs.Acceptance.{code_of, Acceptable}
 use Rattle.scanner.specs.Book.{LoadRefuses, too_small}
-use Rattle.scanner.specs.Scanners.{Seen, at_start, Entered}
+use Rattle.scanner.specs.declared.scanner.Position.{Position}
+use Rattle.scanner.specs.Scanners.{Seen, at_start, standing, Entered}
 
 module _ (a : Handed) (bytes : List ℕ) (image : Image) (ok : Acceptable a bytes) (unpacked : Accepted bytes image) (h : Header) (is : h ≡ header_of (parts_of image)) where
   parts : parts_of image ≡ decode bytes
@@ -65,3 +66,7 @@ module _ (a : Handed) (bytes : List ℕ) (image : Image) (ok : Acceptable a byte
     capacity = same;
     position = at ∙ ap at_start (start_code c there);
   }
+
+-- whoever stood there before, and wherever, so a load enters
+pub entered_from : (a : Handed) (bytes : List ℕ) (before : Seen) (position : Option Position) (after : Seen) → Entered a bytes (standing before.listed before.capacity position) after → Entered a bytes before after
+entered_from a bytes before position after e = record { acceptable = e.acceptable; room = e.room; listed = e.listed; capacity = e.capacity; position = e.position }

@@ -27,6 +27,10 @@ pub record Seen : Type 0 where
 abbrev pub seen : {C : Type 0} → (C → List Entry) → (C → ℕ) → Scanner C → Seen
 seen entries size s = record { listed = entries s.card; capacity = size s.card; position = s.position }
 
+-- a card of this list and this capacity, and who stands there
+abbrev pub standing : List Entry → ℕ → Option Position → Seen
+standing listed capacity position = record { listed = listed; capacity = capacity; position = position }
+
 -- at the code of the start state
 abbrev pub at_start : StateCode → Option Position
 at_start start = Some (record { start = start; code = start })

@@ -1,4 +1,5 @@
 #![tactic(auto)]
 
+pub mod loading;
 pub mod scanner;
 pub mod walk;

@@ -1,17 +1,15 @@
-ghost use Rattle.std.specs.Prelude.{◌≡◌, ◌+◌, ◌≤◌, true, length, is_err, None, Err, OnOk, ◌≢◌};
+ghost use Rattle.std.specs.Prelude.{◌≡◌, ◌+◌, true, length, is_err, None, Err, OnOk, ◌≢◌};
 ghost use Rattle.ternary.specs.declared.refusal.Refusal.{Refusal};
 ghost use Rattle.ternary.specs.Refusals.{number};
 ghost use Rattle.automaton.specs.Limits.{handed};
-ghost use Rattle.image.specs.Calls.{parts_of};
 ghost use Rattle.image.specs.Format.{decode};
 ghost use Rattle.scanner.specs.Book.{blank, Loads, Feeds, Restarts};
 ghost use Rattle.scanner.specs.Scanners.{seen, reached, LoadAnswer, FeedAnswer, RestartAnswer, done_told, fed_told, Keeps, KeepsOn};
 
+use crate::loading::load_card;
 use crate::walk::walk;
 use automaton::words::Automaton;
 use card::rules::Card;
-use image::reader::{Image, unpack};
-use table::check::check;
 use ternary::refusal::Refusal;
 use ternary::words::{Mark, Progress, StateCode};
 
@@ -49,15 +47,7 @@ impl<C: Card> Scanner<C> {
         ensures free { OnOk result (C.free self.new.card + length (decode image.now).entries ≡ C.size self.old.card) }
         ensures keeps { KeepsOn (Loads (C.size self.old.card) (handed automaton.entry) image.now) (seen C.entries C.size self.old) (done_told result) (seen C.entries C.size self.new) }
     {
-        check(automaton, image)?;
-        let image = unpack(image)?;
-        if image.header().entries > self.card.capacity() {
-            return Err(Refusal::CardTooSmall);
-        }
-        let Some(start) = image.code(automaton.start) else {
-            unreachable()
-        };
-        fill(&mut self.card, image);
+        let start = load_card(&mut self.card, automaton, image)?;
         self.position = Some(Position { start, code: start });
         Ok(())
     }
@@ -95,23 +85,9 @@ impl<C: Card> Scanner<C> {
     }
 }
 
-// Clears the card, and appends the entries of the image in order.
-fn fill<C: Card>(card: &mut C, image: Image<'_>)
-    requires few { length (parts_of image).entries ≤ 4096 }
-    requires room { length (parts_of image).entries ≤ C.size card.old }
-    ensures listed { C.entries card.new ≡ (parts_of image.entry).entries }
-    ensures free { C.free card.new + length (parts_of image.entry).entries ≡ C.size card.old }
-    ensures capacity { C.size card.new ≡ C.size card.old }
-{
-    card.clear();
-    for e in image.entries() {
-        // There is room for all, so none is declined.
-        let _ = card.append(e);
-    }
-}
-
-// The code that a walk from `code` has come to, also where it met a byte without an entry.
-fn code_reached(code: StateCode, answer: &Result<Progress, Refusal>) -> StateCode
+// The code that a walk from `code` has come to, also where it met a byte without an entry. A scanner and whoever else
+// walks piece after piece goes on from there.
+pub fn code_reached(code: StateCode, answer: &Result<Progress, Refusal>) -> StateCode
     ensures { result ≡ reached code answer.now }
 {
     match answer {

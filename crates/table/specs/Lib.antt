@@ -1,2 +1,3 @@
 pub mod Acceptance
 pub mod Steps
+pub mod Filed

@@ -2,7 +2,7 @@ use Rattle.std.proofs.Common.{◌≡◌}
 use Rattle.image.specs.Calls.{parts_of}
 use Rattle.table.specs.Steps.{unread}
 use Rattle.scanner.proofs.Filling.{Filling}
-use Rattle.scanner.proofs.scanner.fill.Given as goal
+use Rattle.scanner.proofs.loading.fill.Given as goal
 
 -- the card holds the entries so far, and is as large as at first
 abbrev pub invariant-loop-e : goal.invariant-loop-e
