@@ -13,10 +13,11 @@ use Rattle.image.specs.Rules.{fault, parts_fault}
 use Rattle.image.proofs.Packs.{packed_answer, packed_after}
 use Rattle.forest.specs.Plan.{PlanAnswer}
 use Rattle.table.specs.Acceptance.{Acceptable}
-use Rattle.builder.specs.Build.{Declines, beyond, little, many, long, BuildAnswer, OverShortest, ShortestImage, work_needed}
+use Rattle.builder.specs.Build.{Declines, beyond, little, many, long, BuildAnswer, OverShortest, ShortestImage, work_needed, HeaviestImage}
 use Rattle.builder.specs.Gathering.{lists_of}
 use Rattle.builder.specs.Lists.{table_over, parts_over}
 use Rattle.builder.proofs.Canonical.{lists_shortest, one_size, too_many}
+use Rattle.builder.proofs.Heaviest.{heaviest_image}
 use Rattle.builder.proofs.Ruling.{keeps_rules, acceptable, shortest_image}
 
 -- a refusal that is known by its number and values
@@ -83,3 +84,6 @@ accepted_from a within out r = IfOk-weaker r (SaysParts a out) (λ size. Accepta
 
 pub shortest_from : (a : Handed) (out : List ℕ) (r : Result ℕ Refusal) → IfOk r (SaysParts a out) → IfOk r (λ size. ShortestImage (dfa a) (take size out))
 shortest_from a out r = IfOk-weaker r (SaysParts a out) (λ size. ShortestImage (dfa a) (take size out)) (λ size says. shortest_image (dfa a) (lists_of (dfa a)) (lists_shortest (dfa a)) (take size out) says.1)
+
+pub heaviest_from : (a : Handed) (out : List ℕ) (r : Result ℕ Refusal) → IfOk r (SaysParts a out) → IfOk r (λ size. HeaviestImage (dfa a) (decode (take size out)))
+heaviest_from a out r = IfOk-weaker r (SaysParts a out) (λ size. HeaviestImage (dfa a) (decode (take size out))) (λ size says. heaviest_image (dfa a) (lists_of (dfa a)) (decode (take size out)) says.1)

@@ -1,6 +1,6 @@
 -- What building answers and leaves. Assumes nothing.
-use Rattle.std.specs.Prelude.{◌≡◌, ℕ, ◌+◌, ◌*◌, ◌<◌, ◌≤◌, Bool, ◌&&◌, List, [], map, length, Ok, Err, filter, Result, ◌==◌, ◌≢◌}
-use Rattle.std.specs.List.{AllByRecursion}
+use Rattle.std.specs.Prelude.{◌≡◌, ℕ, ◌+◌, ◌*◌, ◌<◌, ◌≤◌, Bool, true, ◌&&◌, List, [], All, map, length, Ok, Err, filter, Result, ◌==◌, ◌≢◌}
+use Rattle.std.specs.List.{range_with_len, AllByRecursion}
 use Rattle.ternary.specs.declared.entry.Entry.{Entry}
 use Rattle.ternary.specs.declared.refusal.Refusal.{Refusal}
 use Rattle.ternary.specs.declared.refusal.Refusal.TheVariants.{OutputTooShort}
@@ -14,8 +14,9 @@ use Rattle.image.specs.Format.{Parts, decode, encode}
 use Rattle.prefix.specs.declared.word.PrefixWord.{PrefixWord}
 use Rattle.prefix.specs.Words.{Formed, Shortest}
 use Rattle.forest.specs.Forest.{Forest, code, mask}
-use Rattle.forest.specs.Deferment.{forest_of}
-use Rattle.builder.specs.Lists.{Lists, row, deferrable, MeetingLists, ShortestLists, entry_for, table_over, parts_over}
+use Rattle.forest.specs.Deferment.{joined_forest, forest_of}
+use Rattle.forest.specs.Heaviest.{parent_pairs, JoinsHeaviest}
+use Rattle.builder.specs.Lists.{Lists, row, deferrable, MeetingLists, ShortestLists, entry_for, table_over, code_of, parts_over}
 
 -- the numbers of working memory that a build needs
 abbrev pub work_needed : Handed → ℕ
@@ -84,3 +85,18 @@ pub record ShortestIn (a : Dfa) (entries : List Entry) (s : ℕ) : Type 0 where
 -- in an image the entries with each state's shadow are a shortest prefix list of the state
 abbrev pub ShortestImage : Dfa → List ℕ → Type 0
 ShortestImage a bytes = (s : ℕ) → s < a.states → ShortestIn a (decode bytes).entries s
+
+-- an entry has the shadow of some state of the automaton's forest
+abbrev pub HasSomeShadow : Dfa → Entry → Type 0
+HasSomeShadow a e = (s : ℕ) × (s < a.states) × (has_shadow (forest_of a) s e ≡ true)
+
+-- width, codes and shadows are those of the automaton's forest, which joins a heaviest choice of pairs
+pub record OverHeaviest (a : Dfa) (parts : Parts) : Type 0 where
+  pub wide : parts.width ≡ (forest_of a).width
+  pub codes : parts.codes ≡ map (code_of a) (range_with_len 0 a.states)
+  pub shadows : All (HasSomeShadow a) parts.entries
+  pub joins : JoinsHeaviest a (parent_pairs (forest_of a).parent a.states)
+
+-- where the joined forest's codes have 16 bits or less, an image is made over a heaviest choice
+abbrev pub HeaviestImage : Dfa → Parts → Type 0
+HeaviestImage a parts = (joined_forest a).width ≤ 16 → OverHeaviest a parts

@@ -3,7 +3,7 @@ ghost use Rattle.std.specs.Prelude.{length, take, IfOk};
 ghost use Rattle.automaton.specs.Limits.{handed, dfa};
 ghost use Rattle.table.specs.Acceptance.{Acceptable};
 ghost use Rattle.image.specs.Format.{decode};
-ghost use Rattle.builder.specs.Build.{BuildAnswer, OverShortest, RoomSuffices, ShortestImage, SoleAnswer};
+ghost use Rattle.builder.specs.Build.{BuildAnswer, HeaviestImage, OverShortest, RoomSuffices, ShortestImage, SoleAnswer};
 
 use crate::planned::Planned;
 use automaton::words::Automaton;
@@ -19,6 +19,8 @@ pub fn build(automaton: Automaton<'_>, work: &mut [u32], out: &mut [u8]) -> Resu
     ensures parts { IfOk result (λ size. OverShortest (dfa (handed automaton.entry)) (decode (take size out.new))) }
     ensures accepted { IfOk result (λ size. Acceptable (handed automaton.entry) (take size out.new)) }
     ensures shortest { IfOk result (λ size. ShortestImage (dfa (handed automaton.entry)) (take size out.new)) }
+    ensures heaviest { let a = dfa (handed automaton.entry) in
+        IfOk result (λ size. HeaviestImage a (decode (take size out.new))) }
 {
     let planned = Planned::of(automaton, work)?;
     let entries = planned.entries()?;

@@ -3,7 +3,7 @@ use Rattle.std.proofs.Common.{◌≡◌, ℕ, zero, suc, ◌+◌, ◌^◌, ◌<�
 use Rattle.std.proofs.Math.Bool.{or_comm, and_comm}
 use Rattle.std.specs.List.{ContainsAt as Has, AllByRecursion}
 use Rattle.std.proofs.ByRecursion.{All-append, has_append_left, has_append_right, has_push}
-use Rattle.std.proofs.lemmas.Bool.{cases_eq, cases_Bool, true≢false, not-true, not_from_false, eqb-true, eq-eqb, ne_eqb, lt-ltb, leb-true, and_parts, and_from, or_cases, cond-true, cond-false}
+use Rattle.std.proofs.lemmas.Bool.{cases_eq, cases_order, cases_Bool, true≢false, not-true, not_from_false, eqb-true, eq-eqb, ne_eqb, lt-ltb, leb-true, and_parts, and_from, or_cases, cond-true, cond-false}
 use Rattle.std.proofs.lemmas.Bool.Decides.{nat_tests}
 use Rattle.automaton.specs.Runs.{Dfa}
 use Rattle.forest.specs.Counting.{any}
@@ -409,6 +409,37 @@ module _ (a : Dfa) (f : Trees) where
           let y = g.0 in
           b.3 x y g.2 (λ xs yt. omega (arith, ap (depth_of a f) xs, dx, lt)) (λ xt ys. omega (arith, ap (depth_of a f) ys, g.3, lt))
           ∙ near_side d y g.1 (sym (k.close x y g.2).3 ∙ ex) g.3 (omega arith)
+
+    -- at one depth, both states of a joined pair would lie on the root's side
+    module _ (s t r : ℕ) (hr : r < a.states) (root : is_root a f r ≡ true) (sr : f.tree s ≡ f.tree r) (b : Bridge f s t) (level : depth_of a f s ≡ depth_of a f t) where
+      level_side : (x : ℕ) → x < a.states → f.tree x ≡ f.tree s → depth_of a f x ≡ depth_of a f s → b.0 x ≡ b.0 r
+      level_side x hx ex dx = elim (cases_zero (depth_of a f x)) [
+        | inl z ↦
+            let rx : is_root a f x ≡ true = subst (λ (i : ℕ). away a f i x ≡ true) z (depth_away x hx) in
+            ap b.0 (sole_root x r hx hr (ex ∙ sr) rx root)
+        | inr (d, z) ↦
+            let g = nearer d x hx z in
+            let y = g.0 in
+            b.3 x y g.2 (λ xs yt. omega (arith, ap (depth_of a f) yt, g.3)) (λ xt ys. omega (arith, ap (depth_of a f) ys, g.3))
+            ∙ near_side s t r hr root sr b d y g.1 (sym (k.close x y g.2).3 ∙ ex) g.3 (omega arith)
+      ]
+
+    -- so one of two joined states is one step nearer to the root than the other
+    pub one_nearer : (s t : ℕ) → f.joined s t ≡ true → (depth_of a f s ≡ suc (depth_of a f t)) ⊎ (depth_of a f t ≡ suc (depth_of a f s))
+    one_nearer s t j =
+        let c = k.close s t j in
+        let b = k.bridge s t j in
+        let q = root_of a f s c.0 in
+        elim (cases_order (depth_of a f s) (depth_of a f t)) [
+          | inl e ↦
+              let side_s = level_side s t q.0 q.1 q.3 (sym q.2) b e s c.0 refl refl in
+              let side_t = level_side s t q.0 q.1 q.3 (sym q.2) b e t c.1 (sym c.3) (sym e) in
+              absurd (true≢false (sym b.1 ∙ side_s ∙ sym side_t ∙ b.2))
+          | inr w ↦ elim w [
+            | inl lt ↦ inr (omega (arith, next_depth t s c.0 (sym (k.either_way s t) ∙ j)))
+            | inr lt ↦ inl (omega (arith, next_depth s t c.1 j))
+          ]
+        ]
 
     -- the parent is the only neighbour nearer to the root
     pub sole_nearer : (s t : ℕ) → f.joined s t ≡ true → depth_of a f s ≡ suc (depth_of a f t) → parent_of a f s ≡ Some t

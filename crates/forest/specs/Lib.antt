@@ -12,3 +12,4 @@ pub mod Table
 pub mod Laws
 pub mod Plan
 pub mod Held
+pub mod Heaviest

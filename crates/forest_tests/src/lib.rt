@@ -29,6 +29,8 @@ mod tests {
         Apart,
         // the bytes below this lead to the state 0, and all else leads back
         Below(u16),
+        // four states in a cycle: 0 and 1 share 90 bytes, 1 and 2 share 70, 2 and 3 share 50, 0 and 3 share 40
+        Cycle,
     }
 
     fn successor(kind: Kind, state: u16, byte: u16) -> u16 {
@@ -44,6 +46,12 @@ mod tests {
             Kind::Halves => byte / 128,
             Kind::Apart => { if byte == 0 && state > 0 { 1 } else { 0 } }
             Kind::Below(end) => { if byte < end { 0 } else { state } }
+            Kind::Cycle => match (byte, state) {
+                (0..=89, 0 | 1) | (210..=249, 0 | 3) => 0,
+                (90..=159, 1 | 2) => 1,
+                (160..=209, 2 | 3) => 2,
+                _ => state,
+            },
         }
     }
 
@@ -137,6 +145,19 @@ mod tests {
             Kind::Round,
             2,
             &[root(0, 3), root(1, 3), root(2, 3)],
+        )?;
+        // of the cycle's four pairs the one that shares least is left out, and the others form a chain
+        check_plan(
+            &rt,
+            heap,
+            Kind::Cycle,
+            3,
+            &[
+                root(0, 0),
+                below(0, 1, 4, 4),
+                below(1, 2, 6, 6),
+                below(2, 3, 7, 7),
+            ],
         )?;
         // 128 bytes lead back from either state: the lower one is the root
         check_plan(&rt, heap, Kind::Halves, 1, &[root(0, 0), below(0, 1, 1, 1)])?;

@@ -1,8 +1,9 @@
 // Who defers to whom, and the codes and shadows of the states.
-ghost use Rattle.std.specs.Prelude.{◌≡◌, ◌+◌, ◌*◌, ◌≤◌, length, OnOk, None};
+ghost use Rattle.std.specs.Prelude.{◌≡◌, ◌+◌, ◌*◌, ◌≤◌, length, IfOk, OnOk, None};
 ghost use Rattle.automaton.specs.Limits.{handed, dfa};
 ghost use Rattle.automaton.specs.Sound.{meant};
 ghost use Rattle.forest.specs.Codes.{numbered};
+ghost use Rattle.forest.specs.Heaviest.{HeaviestPlan};
 ghost use Rattle.forest.specs.Laws.{PlanLaws};
 ghost use Rattle.forest.specs.Plan.{PlanOf, Planned, PlanAnswer, states_of};
 
@@ -19,6 +20,7 @@ impl Plan {
     pub fn of(automaton: Automaton<'_>, work: &mut [u32]) -> Result<Plan, Refusal>
         ensures answer { PlanAnswer (handed automaton.entry) work.old work.new result }
         ensures laws { OnOk result (PlanLaws (dfa (handed automaton.entry))) }
+        ensures heaviest { IfOk result (HeaviestPlan (dfa (handed automaton.entry))) }
     {
         let automaton = automaton.sound()?;
         let states = automaton.states() as usize;

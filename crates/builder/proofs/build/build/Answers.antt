@@ -10,10 +10,10 @@ use Rattle.image.specs.Format.{Parts, decode, parts_from}
 use Rattle.image.specs.Rules.{fault}
 use Rattle.prefix.specs.States.{state_no}
 use Rattle.table.specs.Acceptance.{Acceptable}
-use Rattle.builder.specs.Build.{BuildAnswer, OverShortest, ShortestImage}
+use Rattle.builder.specs.Build.{BuildAnswer, HeaviestImage, OverShortest, ShortestImage}
 use Rattle.builder.specs.Gathering.{lists_of}
 use Rattle.builder.specs.Lists.{code_of, table_over, parts_over}
-use Rattle.builder.proofs.Answering.{plan_declined, gather_declined, packed, parts_from_says, accepted_from, shortest_from}
+use Rattle.builder.proofs.Answering.{plan_declined, gather_declined, packed, parts_from_says, accepted_from, shortest_from, heaviest_from}
 use Rattle.builder.proofs.OneBuild.{sole_answer, room_suffices}
 use Rattle.builder.proofs.build.build.Goals as goal
 
@@ -29,6 +29,7 @@ returns-in_err-planned c =
       parts = IfOk-from_err r _ c.from_residual.ensures.0;
       accepted = IfOk-from_err r _ c.from_residual.ensures.0;
       shortest = IfOk-from_err r _ c.from_residual.ensures.0;
+      heaviest = IfOk-from_err r _ c.from_residual.ensures.0;
     }
 
 -- what is answered of an automaton that is planned is answered of the automaton that was handed in
@@ -52,6 +53,7 @@ returns-in_err-entries c =
       parts = IfOk-from_err r _ c.from_residual-in_err-entries.ensures.0;
       accepted = IfOk-from_err r _ c.from_residual-in_err-entries.ensures.0;
       shortest = IfOk-from_err r _ c.from_residual-in_err-entries.ensures.0;
+      heaviest = IfOk-from_err r _ c.from_residual-in_err-entries.ensures.0;
     }
 
 pub returns : goal.returns
@@ -80,4 +82,5 @@ returns c =
       parts = subst (λ (x : Automaton). IfOk c.pack.result (λ size. OverShortest (dfa (handed x)) (decode (take size c.pack.new.out)))) told.0 (parts_from_says s few c.pack.new.out c.pack.result says);
       accepted = subst (λ (x : Automaton). IfOk c.pack.result (λ size. Acceptable (handed x) (take size c.pack.new.out))) told.0 (accepted_from s p.automaton.within c.pack.new.out c.pack.result says);
       shortest = subst (λ (x : Automaton). IfOk c.pack.result (λ size. ShortestImage (dfa (handed x)) (take size c.pack.new.out))) told.0 (shortest_from s c.pack.new.out c.pack.result says);
+      heaviest = subst (λ (x : Automaton). IfOk c.pack.result (λ size. HeaviestImage (dfa (handed x)) (decode (take size c.pack.new.out)))) told.0 (heaviest_from s c.pack.new.out c.pack.result says);
     }
