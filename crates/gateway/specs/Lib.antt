@@ -1,0 +1,5 @@
+pub mod Calls
+pub mod Sessions
+pub mod Gateways
+pub mod Laws
+pub mod Runs
