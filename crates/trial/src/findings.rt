@@ -61,6 +61,18 @@ pub enum Subject {
     Refused,
     // where a scanner stands, as an empty piece shows
     Stand,
+    // a load of a gateway
+    DepotLoad,
+    // an open
+    Open,
+    // a post
+    Post,
+    // a close
+    Close,
+    // the answer of a turn
+    Turn,
+    // the slots for marks after a turn
+    TurnMarks,
 }
 
 // What differed, and the seed of the round in which it did.

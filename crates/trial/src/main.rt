@@ -13,7 +13,9 @@ use std::env;
 
 mod altered;
 mod cases;
+mod coaches;
 mod counts;
+mod depot;
 mod figures;
 mod findings;
 mod journey;

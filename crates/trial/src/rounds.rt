@@ -1,6 +1,7 @@
 // Rounds: an automaton drawn at random, and journeys over cards of each make.
 use crate::cases::Case;
 use crate::counts::add;
+use crate::depot::serve;
 use crate::journey::{refuse_small_card, travel};
 use crate::kinds::drawn_machine;
 use crate::trial::Trial;
@@ -29,10 +30,12 @@ pub fn try_round(trial: &mut Trial) -> Result<(), AllocError> {
     try_list_and_column(trial, &case, cut, rest)?;
     try_column_and_list(trial, &case, cut, rest)?;
     try_three(trial, &case, cut, rest)?;
-    match case.changed(trial)? {
-        Some(changed) => try_list(trial, &changed),
-        None => Ok(()),
+    if let Some(changed) = case.changed(trial)? {
+        try_list(trial, &changed)?;
     }
+    serve_list(trial, &case)?;
+    serve_column(trial, &case)?;
+    serve_list_and_column(trial, &case, cut, rest)
 }
 
 // Places of a list card.
@@ -116,4 +119,33 @@ fn try_three(trial: &mut Trial, case: &Case, first: usize, rest: usize) -> Resul
     let inner = Tandem::new(ListCard::new(places.as_mut_slice()), column);
     let list = ListCard::new(first_places.as_mut_slice());
     travel(trial, case, Tandem::new(list, inner))
+}
+
+// Coaches served over a list card.
+fn serve_list(trial: &mut Trial, case: &Case) -> Result<(), AllocError> {
+    let mut places = places(trial.heap, case.capacity)?;
+    serve(trial, case, ListCard::new(places.as_mut_slice()))
+}
+
+// Coaches served over a column card.
+fn serve_column(trial: &mut Trial, case: &Case) -> Result<(), AllocError> {
+    let mut words = words(trial.heap, case.capacity)?;
+    let mut decisions = decisions(trial.heap, case.capacity)?;
+    let card = ColumnCard::new(words.as_mut_slice(), decisions.as_mut_slice());
+    serve(trial, case, card)
+}
+
+// Coaches served over a tandem of a list card and a column card.
+fn serve_list_and_column(
+    trial: &mut Trial,
+    case: &Case,
+    first: usize,
+    second: usize,
+) -> Result<(), AllocError> {
+    let mut places = places(trial.heap, first)?;
+    let mut words = words(trial.heap, second)?;
+    let mut decisions = decisions(trial.heap, second)?;
+    let list = ListCard::new(places.as_mut_slice());
+    let column = ColumnCard::new(words.as_mut_slice(), decisions.as_mut_slice());
+    serve(trial, case, Tandem::new(list, column))
 }

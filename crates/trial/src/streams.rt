@@ -31,18 +31,42 @@ impl Stream {
             Stream::Same => before,
         }
     }
+
+    // So many bytes, of which the first comes after this one.
+    fn bytes(
+        self,
+        heap: Global,
+        random: &mut Random,
+        before: u8,
+        length: usize,
+    ) -> Result<Vec<u8>, AllocError> {
+        let mut byte = before;
+        let mut bytes = Vec::new(heap);
+        for _ in 0..length {
+            byte = self.next(random, byte);
+            bytes.push(byte)?;
+        }
+        Ok(bytes)
+    }
 }
 
 // A piece.
 pub fn drawn_piece(heap: Global, random: &mut Random) -> Result<Vec<u8>, AllocError> {
     let stream = Stream::drawn(random);
-    let mut byte = random.byte();
-    let mut piece = Vec::new(heap);
-    for _ in 0..drawn_length(random) {
-        byte = stream.next(random, byte);
-        piece.push(byte)?;
-    }
-    Ok(piece)
+    let before = random.byte();
+    let length = drawn_length(random);
+    stream.bytes(heap, random, before, length)
+}
+
+// So many bytes.
+pub fn drawn_bytes(
+    heap: Global,
+    random: &mut Random,
+    length: usize,
+) -> Result<Vec<u8>, AllocError> {
+    let stream = Stream::drawn(random);
+    let before = random.byte();
+    stream.bytes(heap, random, before, length)
 }
 
 // How many bytes: mostly few, and seldom the most of all.
