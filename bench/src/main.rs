@@ -13,6 +13,7 @@ fn main() {
     measures::builds();
     measures::checks();
     measures::feeds();
+    measures::turns();
     measures::searches();
     measures::growth();
 }

@@ -157,6 +157,38 @@ pub fn feeds() {
     }
 }
 
+/// Turns of a gateway on a list card in which all 64 coaches wait: the time of a turn. The time of the load and the posts is
+/// taken off.
+pub fn turns() {
+    let title = "Turns with 64 coaches waiting, beside 64 plain scanners fed in turn";
+    heading(title, "ours", "plain");
+    let owned = words_automaton(64);
+    let automaton = owned.lent();
+    let image = image_of(&automaton);
+    for (quota, count) in [(1, 65_536), (16, 16_384), (64, 8_192), (512, 1_024), (4_096, 256)] {
+        // no coach is done before the last turn
+        let buffer = text(quota * (count as usize / 64 + 1));
+        let ours = |count| ours::turns(black_box(&automaton), &image, &buffer, quota, count);
+        let plain = |count| rounds::turns(black_box(&automaton), &image, &buffer, quota, count);
+        assert_eq!(ours(200), plain(200));
+        assert_ne!(ours(200), 0);
+        let [mine_load, plain_load, mine, plain] = best_in_turn(
+            15,
+            [
+                &mut || _ = black_box(ours(0)),
+                &mut || _ = black_box(plain(0)),
+                &mut || _ = black_box(ours(count)),
+                &mut || _ = black_box(plain(count)),
+            ],
+        );
+        let a_turn = |all, load| (nanoseconds(all) - nanoseconds(load)) / f64::from(count);
+        let (mine, plain) = (a_turn(mine, mine_load), a_turn(plain, plain_load));
+        let a_second = 1e9 / mine;
+        let what = format!("quota {quota}: {a_second:.0} turns a second");
+        line(&what, mine, plain, Bar::AtMost(1.3));
+    }
+}
+
 /// A table of so many entries, each for one code of its own.
 fn table(entries: usize) -> Vec<u8> {
     let mut image = vec![0; LARGEST_IMAGE];

@@ -51,6 +51,21 @@ unsafe extern "C" {
         count: u32,
     ) -> u64;
 
+    fn measured_turns(
+        states: u16,
+        start: u16,
+        successors: *const u16,
+        successors_len: usize,
+        classes: *const u8,
+        classes_len: usize,
+        image: *const u8,
+        image_len: usize,
+        buffer: *const u8,
+        buffer_len: usize,
+        quota: usize,
+        count: u32,
+    ) -> u64;
+
     fn measured_list_search(
         image: *const u8,
         image_len: usize,
@@ -122,6 +137,29 @@ pub fn feed(a: &Automaton<'_>, image: &[u8], piece: &[u8], count: u32) -> u64 {
             image.len(),
             piece.as_ptr(),
             piece.len(),
+            count,
+        )
+    }
+}
+
+/// Loads a gateway over a list card, lets the whole buffer wait for each coach, and makes so many turns: a sum over the
+/// answers.
+pub fn turns(a: &Automaton<'_>, image: &[u8], buffer: &[u8], quota: usize, count: u32) -> u64 {
+    let (successors, classes) = (a.successors, a.classes);
+    // SAFETY: as in `build`.
+    unsafe {
+        measured_turns(
+            a.states,
+            a.start,
+            successors.as_ptr(),
+            successors.len(),
+            classes.as_ptr(),
+            classes.len(),
+            image.as_ptr(),
+            image.len(),
+            buffer.as_ptr(),
+            buffer.len(),
+            quota,
             count,
         )
     }

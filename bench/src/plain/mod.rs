@@ -8,6 +8,7 @@ pub mod image;
 pub mod list;
 pub mod prefix;
 pub mod sorted;
+pub mod turns;
 pub mod walk;
 pub mod words;
 

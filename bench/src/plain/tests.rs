@@ -6,7 +6,8 @@ use super::column::ColumnCard;
 use super::forest::plan;
 use super::image::unpack;
 use super::list::{Card, ListCard};
-use super::walk::{Scanner, walk};
+use super::turns::Turns;
+use super::walk::{Scanner, load_card, walk};
 use super::words::{Automaton, Entry, Mark, Refusal};
 use crate::automata::{Owned, eight_blocks, words_automaton};
 
@@ -96,6 +97,27 @@ fn ab_is_fed() {
     assert_eq!(scanner.feed(b"bab", &mut marks).unwrap().marks, 2);
     let small = Scanner::load(ListCard::new(2), &ab.lent(), &IMAGE).map(|_| ());
     assert_eq!(small, Err(Refusal::CardTooSmall));
+}
+
+#[test]
+fn ab_is_fed_in_turn() {
+    let mut card = ListCard::new(3);
+    let code = load_card(&mut card, &ab().lent(), &IMAGE).unwrap();
+    let mut turns = Turns::new(card, code, b"xab");
+    let mut marks = [Mark::default(); 2];
+    let mut fed = || {
+        turns.turn(&mut marks, 2).map(|(at, answer)| {
+            let progress = answer.unwrap();
+            (at, progress.taken, progress.marks, progress.code)
+        })
+    };
+    for coach in 0..64 {
+        assert_eq!(fed(), Some((coach, 2, 0, 1)));
+    }
+    for coach in 0..64 {
+        assert_eq!(fed(), Some((coach, 1, 1, 2)));
+    }
+    assert_eq!(fed(), None);
 }
 
 fn chain(states: u16) -> Owned {

@@ -52,6 +52,24 @@ pub fn walk<C: Card>(
     })
 }
 
+/// Checks an image against its automaton, and fills a card with its entries: the code of the start state.
+pub fn load_card<C: Card>(
+    card: &mut C,
+    automaton: &Automaton<'_>,
+    image: &[u8],
+) -> Result<u16, Refusal> {
+    check(automaton, image)?;
+    let image = unpack(image)?;
+    if usize::from(image.entries) > card.capacity() {
+        return Err(Refusal::CardTooSmall);
+    }
+    card.clear();
+    for entry in image.entries() {
+        card.append(entry)?;
+    }
+    Ok(image.code(automaton.start))
+}
+
 /// A card with an automaton's table, and the code that it has come to.
 pub struct Scanner<C> {
     card: C,
@@ -65,16 +83,7 @@ impl<C: Card> Scanner<C> {
         automaton: &Automaton<'_>,
         image: &[u8],
     ) -> Result<Scanner<C>, Refusal> {
-        check(automaton, image)?;
-        let image = unpack(image)?;
-        if usize::from(image.entries) > card.capacity() {
-            return Err(Refusal::CardTooSmall);
-        }
-        card.clear();
-        for entry in image.entries() {
-            card.append(entry)?;
-        }
-        let code = image.code(automaton.start);
+        let code = load_card(&mut card, automaton, image)?;
         Ok(Scanner { card, code })
     }
 

@@ -1,2 +1,3 @@
 pub mod Beyond
 pub mod Loaded
+pub mod Waiting

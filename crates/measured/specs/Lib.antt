@@ -1,3 +1,4 @@
 pub mod Feeds
 pub mod Searches
 pub mod Told
+pub mod Turns

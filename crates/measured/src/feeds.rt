@@ -2,7 +2,7 @@
 ghost use Rattle.std.specs.Prelude.{◌≡◌, ◌≤◌, length};
 ghost use Rattle.automaton.specs.Limits.{handed};
 ghost use Rattle.measured.specs.Told.{numbers_handed};
-ghost use Rattle.measured.specs.Feeds.{FeedTold, Fed, FeedsTold, marked, marks_sum, progress_sum};
+ghost use Rattle.measured.specs.Feeds.{FeedTold, Fed, FeedsTold, marked, marks_sum, progress_sum, fed_sum};
 
 use crate::states::{MOST_SUCCESSORS, states_of};
 use automaton::words::Automaton;
@@ -13,8 +13,8 @@ use ternary::entry::Entry;
 use ternary::refusal::Refusal;
 use ternary::words::{MOST_ENTRIES, Mark, Progress, StateNo};
 
-// The mark slots of a feed.
-const SLOTS: usize = 4096;
+// The mark slots of a feed or a turn.
+pub const SLOTS: usize = 4096;
 
 // A sum with a mark more.
 fn marked(sum: u64, mark: &Mark) -> u64
@@ -39,12 +39,11 @@ fn progress_sum(progress: Progress, sum: u64) -> u64
     taken.wrapping_mul(31).wrapping_add(progress.code.0 as u64)
 }
 
-// Feeds a piece, and adds what is answered and the marks to a sum, or the number of a refusal.
-fn feed<C: Card>(scanner: &mut Scanner<C>, piece: &[u8], marks: &mut [Mark], sum: u64) -> u64
-    ensures told { FeedTold (C.entries scanner.old.card) piece.now scanner.old.position scanner.new.position marks.old marks.new sum result }
-    ensures card { scanner.new.card ≡ scanner.old.card }
+// A sum with what a walk answers and the marks that it left, or with the number of a refusal.
+pub fn fed_sum(answer: Result<Progress, Refusal>, marks: &[Mark], sum: u64) -> u64
+    ensures { result ≡ fed_sum answer marks.now sum }
 {
-    match scanner.feed(piece, marks) {
+    match answer {
         Ok(progress) => {
             let sum = progress_sum(progress, sum);
             let count = progress.marks.min(marks.len());
@@ -52,6 +51,15 @@ fn feed<C: Card>(scanner: &mut Scanner<C>, piece: &[u8], marks: &mut [Mark], sum
         }
         Err(why) => sum.wrapping_mul(31).wrapping_add(why.number() as u64),
     }
+}
+
+// Feeds a piece, and adds what is answered and the marks to a sum, or the number of a refusal.
+fn feed<C: Card>(scanner: &mut Scanner<C>, piece: &[u8], marks: &mut [Mark], sum: u64) -> u64
+    ensures told { FeedTold (C.entries scanner.old.card) piece.now scanner.old.position scanner.new.position marks.old marks.new sum result }
+    ensures card { scanner.new.card ≡ scanner.old.card }
+{
+    let answer = scanner.feed(piece, marks);
+    fed_sum(answer, marks, sum)
 }
 
 // Feeds a piece so many times.

@@ -6,3 +6,4 @@ mod calls;
 mod feeds;
 mod searches;
 mod states;
+mod turns;
