@@ -4,5 +4,6 @@ pub mod Fairness
 pub mod Serving
 pub mod SoFar
 pub mod Sole
+mod Alike
 pub mod Tables
 pub mod Slots

@@ -1,5 +1,5 @@
 -- What a run knows of the calls so far.
-use Rattle.std.proofs.Common.{◌≡◌, ℕ, ◌+◌, ◌<◌, Bool, true, List, [], ◌∷◌, ◌++◌, length, get_or, take, is_ok, Err, Result, sym, refl, ap, ◌∙◌, subst, arith, length-take}
+use Rattle.std.proofs.Common.{◌≡◌, ℕ, ◌+◌, ◌<◌, ◌≤◌, Bool, true, List, [], ◌∷◌, ◌++◌, length, get_or, take, is_ok, Err, Result, sym, refl, ap, ◌∙◌, subst, arith, length-take}
 use Rattle.std.proofs.lemmas.List.{take_more, length_push, append_assoc, append-nil}
 use Rattle.std.proofs.lemmas.Bool.{false≢true}
 use Rattle.gateway.specs.declared.words.Call.{Call}
@@ -33,6 +33,7 @@ pub record SoFar (capacity : ℕ) (calls : List Call) (i : ℕ) (before after : 
   pub answers : List Answer
   pub added : after ≡ before ++ answers
   pub count : length answers ≡ i
+  pub within : i ≤ length calls
   pub first : Seen
   pub size : first.capacity ≡ capacity
   pub blank : IsBlank first
@@ -40,7 +41,7 @@ pub record SoFar (capacity : ℕ) (calls : List Call) (i : ℕ) (before after : 
 
 -- no call yet
 pub so_far_none : (calls : List Call) (before : List Answer) (s : Seen) → IsBlank s → SoFar s.capacity calls 0 before before s
-so_far_none calls before s blank = record { answers = []; added = sym (append-nil before); count = refl; first = s; size = refl; blank = blank; chain = ended }
+so_far_none calls before s blank = record { answers = []; added = sym (append-nil before); count = refl; within = omega arith; first = s; size = refl; blank = blank; chain = ended }
 
 -- one call more
 pub so_far_more : (capacity : ℕ) (calls : List Call) (i : ℕ) (before after later : List Answer) (s t : Seen) (call : Call) (answer : Answer)
@@ -53,6 +54,7 @@ so_far_more capacity calls i before after later s t call answer within read push
       answers = so_far.answers ++ answer ∷ [];
       added = pushed ∙ ap (λ (xs : List Answer). xs ++ answer ∷ []) so_far.added ∙ append_assoc before so_far.answers (answer ∷ []);
       count = length_push so_far.answers answer ∙ ap (λ n. n + 1) so_far.count;
+      within = omega (arith, within);
       first = so_far.first;
       size = so_far.size;
       blank = so_far.blank;
@@ -70,6 +72,7 @@ so_far_ran size capacity calls i before after s whole is all so_far =
     record {
       answers = so_far.answers;
       added = so_far.added;
+      few = omega (arith, so_far.count, so_far.within);
       all = λ w. so_far.count ∙ all w;
       first = so_far.first;
       last = s;

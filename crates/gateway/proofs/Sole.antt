@@ -97,7 +97,7 @@ start_or k None = k
 start_or k (Some l) = l
 
 -- what an accepted load leaves
-abbrev filled_with : List Entry → ℕ → StateCode → List Session → Seen
+abbrev pub filled_with : List Entry → ℕ → StateCode → List Session → Seen
 filled_with listed capacity start sessions = record { listed = listed; capacity = capacity; start = Some start; sessions = sessions; next = 0 }
 
 -- ---- each call
@@ -110,7 +110,7 @@ both_ways : {P : Type 0} (b : Bool) → b ≡ false → b ≡ true → P
 both_ways b off on = absurd (false≢true (sym off ∙ on))
 
 module _ (s : Seen) where
-  loads_one : (a : Handed) (image : List ℕ) {r q : Reply} {u v : Seen} → Loads a image s r u → Loads a image s q v → Alike r u q v
+  pub loads_one : (a : Handed) (image : List ℕ) {r q : Reply} {u v : Seen} → Loads a image s r u → Loads a image s q v → Alike r u q v
   loads_one a image (declines {n = n} {vs = vs} (unchecked why)) (declines {n = m} {vs = ws} (unchecked again)) =
       let same = one_refusal a image n m vs ws why again in
       ((λ i. refused (same.0 i) (same.1 i)), refl)

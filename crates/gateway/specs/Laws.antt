@@ -5,7 +5,7 @@ use Rattle.ternary.specs.Marks.{Marked}
 use Rattle.automaton.specs.Limits.{dfa}
 use Rattle.automaton.specs.Runs.{Dfa, marks, raised}
 use Rattle.scanner.specs.Book.{Told, declined, fed}
-use Rattle.gateway.specs.Gateways.{Seen, Asked, loading, opening, posting, turning, closing, Reply, refused, accepted, idle, served, Step}
+use Rattle.gateway.specs.Gateways.{Seen, IsBlank, Asked, loading, opening, posting, turning, closing, Reply, refused, accepted, idle, served, Step}
 
 -- ---- series of calls
 
@@ -211,3 +211,12 @@ IsSole first events last =
     (others : List Event) (other : Seen) → Chain first others other
     → map (λ (e : Event). e.0) others ≡ map (λ (e : Event). e.0) events
     → (others ≡ events) × (other ≡ last)
+
+-- whoever else begins with a gateway that was new, over a card of the same capacity, whatever that
+-- card held and of whatever make it is, is told the same by the same calls
+abbrev pub IsToldAlike : Seen → List Event → Type 0
+IsToldAlike first events =
+    (other last : Seen) (others : List Event) → IsBlank other → other.capacity ≡ first.capacity
+    → Chain other others last
+    → map (λ (e : Event). e.0) others ≡ map (λ (e : Event). e.0) events
+    → others ≡ events

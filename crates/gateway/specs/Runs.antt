@@ -1,5 +1,5 @@
 -- Whole runs of calls of a gateway. Assumes nothing.
-use Rattle.std.specs.Prelude.{◌≡◌, ℕ, Bool, true, List, [], ◌∷◌, ◌++◌, map, length, Ok, Err, Result, vec_items}
+use Rattle.std.specs.Prelude.{◌≡◌, ℕ, ◌≤◌, Bool, true, List, [], ◌∷◌, ◌++◌, map, length, Ok, Err, Result, vec_items}
 use Rattle.ternary.specs.declared.refusal.Refusal.{Refusal}
 use Rattle.ternary.specs.declared.words.Mark.{Mark}
 use Rattle.ternary.specs.declared.words.Progress.{Progress}
@@ -56,6 +56,7 @@ pub record Ran (capacity : ℕ) (calls : List Call) (before after : List Answer)
     : Type 0 where
   pub answers : List Answer
   pub added : after ≡ before ++ answers
+  pub few : length answers ≤ length calls
   pub all : whole ≡ true → length answers ≡ length calls
   -- the answers are those of a gateway that was new, call by call
   pub first : Seen
