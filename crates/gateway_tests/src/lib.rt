@@ -9,7 +9,7 @@ mod tests {
     use card::rules::Card;
     use gateway::gateway::Gateway;
     use gateway::run::run;
-    use gateway::words::{Answer, Call, Done, Filing, Part, Turn};
+    use gateway::words::{Answer, Call, Done, Filing, Part, Served, Turn};
     use std::alloc::{AllocError, Global};
     use std::process::Abort;
     use std::test::Fail;
@@ -58,7 +58,8 @@ mod tests {
         gateway.load(automaton, IMAGE.get(..bytes).unwrap_or(&IMAGE))
     }
 
-    // A turn, with the marks that it wrote. All other slots have to be left as they were.
+    // A turn, with the marks that it wrote. A turn that wrote other slots than it says is answered as accepted, which no turn
+    // is expected to be.
     fn turn<C: Card>(
         gateway: &mut Gateway<C>,
         buffer: &[u8],
@@ -68,13 +69,26 @@ mod tests {
         let answer = gateway.turn(buffer, marks.as_mut_slice(), quota);
         let stale = marks.iter().filter(|mark| **mark == STALE).count();
         let written = marks.len().saturating_sub(stale);
+        if written != marks_told(&answer) {
+            return Ok(Done::Accepted);
+        }
         match answer? {
-            None if written == 0 => Ok(Done::Idle),
-            None => Ok(Done::Accepted),
+            None => Ok(Done::Idle),
             Some(served) => {
                 marks.truncate(written);
                 Ok(Done::Served(served, marks))
             }
+        }
+    }
+
+    // How many marks a turn says that it wrote.
+    fn marks_told(answer: &Result<Option<Served>, Refusal>) -> usize {
+        match answer {
+            Ok(Some(served)) => match served.walk {
+                Ok(progress) | Err(Refusal::NoEntry(progress)) => progress.marks,
+                Err(_) => 0,
+            },
+            _ => 0,
         }
     }
 
