@@ -1,0 +1,3 @@
+pub mod Unrolled
+pub mod Choosing
+pub mod Build

@@ -1,0 +1,4 @@
+pub mod Journeys
+pub mod Laws
+pub mod Runs
+pub mod Guarantee

@@ -1,0 +1,7 @@
+pub mod BytesBack
+pub mod Items
+pub mod Packs
+pub mod PartsBack
+pub mod Raws
+pub mod Ruled
+pub mod Frames

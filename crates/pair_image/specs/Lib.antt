@@ -1,0 +1,3 @@
+pub mod Calls
+pub mod Format
+pub mod Rules

@@ -1,0 +1,4 @@
+pub mod Found
+pub mod HandedOn
+pub mod OneVerdict
+pub mod Sorted

@@ -1,0 +1,3 @@
+pub mod FirstMatch
+pub mod Places
+pub mod PairLaws

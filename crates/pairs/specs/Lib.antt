@@ -1,0 +1,4 @@
+pub mod Strides
+pub mod Match
+pub mod Carries
+pub mod Cards
