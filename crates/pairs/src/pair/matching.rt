@@ -39,9 +39,33 @@ pub fn first_pair(
     find(entries, code, byte, second).map(|e| (e.entry.next(), e.entry.class(), e.stride))
 }
 
-// The first entry that matches.
+// The first entry that matches. Four entries are tried in a turn, and it is compiled once, as the search among one-byte
+// entries is.
 #[inline(never)]
 fn find(entries: &[PairEntry], code: StateCode, byte: u8, second: u8) -> Option<&PairEntry>
+    ensures { option_copied result ≡ find (λ e. matches e code.0 byte second) entries.now }
+{
+    let mut rest = entries;
+    while let [a, b, c, d, more @ ..] = rest {
+        if a.matches(code, byte, second) {
+            return Some(a);
+        }
+        if b.matches(code, byte, second) {
+            return Some(b);
+        }
+        if c.matches(code, byte, second) {
+            return Some(c);
+        }
+        if d.matches(code, byte, second) {
+            return Some(d);
+        }
+        rest = more;
+    }
+    find_singly(rest, code, byte, second)
+}
+
+// The first entry that matches, where there are few.
+fn find_singly(entries: &[PairEntry], code: StateCode, byte: u8, second: u8) -> Option<&PairEntry>
     ensures { option_copied result ≡ find (λ e. matches e code.0 byte second) entries.now }
 {
     entries.iter().find(|e| e.matches(code, byte, second))
