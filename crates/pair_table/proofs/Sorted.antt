@@ -1,10 +1,10 @@
 -- The entries that match a code, or a first byte, decide for it as all entries do. Assumes nothing.
-use Rattle.std.proofs.Common.{◌≡◌, ℕ, ◌<◌, Bool, true, false, ◌&&◌, eqb, List, [], ◌∷◌, filter, Some, None, Option, cond, refl, sym, ap, ◌∙◌, subst}
+use Rattle.std.proofs.Common.{◌≡◌, ℕ, Bool, true, false, ◌&&◌, eqb, List, [], ◌∷◌, filter, Some, None, Option, cond, refl, sym, ap, ◌∙◌, subst}
 use lib.Bits.{bit_and}
 use Rattle.ternary.specs.declared.words.StateCode.{StateCode}
 use Rattle.automaton.specs.Runs.{Dfa}
 use Rattle.pairs.specs.declared.pair.PairEntry.{PairEntry}
-use Rattle.pairs.specs.Match.{Decision, matches, first, pick}
+use Rattle.pairs.specs.Match.{matches, first, pick}
 use Rattle.pairs.specs.Carries.{Right, RightStep}
 use Rattle.pair_table.specs.Steps.{accepts_code, accepts_byte, WrongSecond, WrongBytes}
 

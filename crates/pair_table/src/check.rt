@@ -1,9 +1,13 @@
 ghost use Rattle.std.specs.Prelude.{◌≡◌, ◌≤◌, drop, filter, length, is_ok, Decides};
+ghost use Rattle.std.specs.Bool.{OnTrue};
+ghost use Rattle.std.specs.List.{find, list_all};
+ghost use Rattle.std.specs.Option.{option_copied};
 ghost use Rattle.automaton.specs.Limits.{handed};
 ghost use Rattle.automaton.specs.Sound.{meant};
+ghost use Rattle.ternary.specs.Match as one_byte;
 ghost use Rattle.pairs.specs.Carries.{Right};
 ghost use Rattle.pair_table.specs.Acceptance.{Acceptable, Checked, OnlyAnswer};
-ghost use Rattle.pair_table.specs.Steps.{accepts_code, accepts_byte, listed, unread, WrongSecond, WrongBytes, WrongPlace};
+ghost use Rattle.pair_table.specs.Steps.{accepts_code, accepts_byte, alike, listed, unread, Alike, Leads, RightAt, WrongSecond, WrongBytes, WrongPlace};
 
 use arrayvec::ArrayVec;
 use automaton::sound::SoundAutomaton;
@@ -13,6 +17,7 @@ use pair_image::reader::{Header, unpack};
 use pairs::pair::PairEntry;
 use pairs::pair::matching::first_pair;
 use pairs::stride::Stride;
+use ternary::entry::Entry;
 use ternary::refusal::Refusal;
 use ternary::words::{MOST_ENTRIES, MOST_STATES, StateCode, StateNo};
 
@@ -79,6 +84,27 @@ fn accepts_byte(entry: PairEntry, byte: u8) -> bool
     byte & one.byte_mask() == one.byte_value()
 }
 
+// The first entry that matches a code and a first byte, whatever the second.
+fn first_at(entries: &[PairEntry], code: StateCode, byte: u8) -> Option<&PairEntry>
+    ensures { option_copied result ≡ find (λ e. one_byte.matches e.entry code.0 byte) entries.now }
+{
+    entries.iter().find(|e| e.entry().matches(code, byte))
+}
+
+// Whether each entry matches both of two first bytes or none.
+fn all_alike(entries: &[PairEntry], byte: u8, other: u8) -> bool
+    ensures { result ≡ list_all (alike byte other) entries.now }
+{
+    entries.iter().all(|e| is_alike(*e, byte, other))
+}
+
+// Whether an entry matches both of two first bytes or none.
+fn is_alike(entry: PairEntry, byte: u8, other: u8) -> bool
+    ensures { result ≡ alike byte other entry }
+{
+    accepts_byte(entry, byte) == accepts_byte(entry, other)
+}
+
 // An automaton, and the codes of its states and the entries that have to carry it.
 #[derive(Clone, Copy)]
 struct Table<'a> {
@@ -131,16 +157,54 @@ impl Table<'_> {
         }
     }
 
-    // The lowest bytes at which the entries do not carry a state.
+    // The lowest bytes at which the entries do not carry a state. The second bytes are looked through only for a first byte
+    // that one entry does not settle, and that is not like the latest for which they were.
     fn first_wrong_bytes(&self, state: StateNo, row: &mut Own) -> Option<(u8, u8)>
         ensures { WrongBytes (meant self.now.automaton) (listed self.now.codes.now) self.now.entries.now state.0 result }
     {
+        let mut latest = None;
         for byte in 0..=255 {
-            if let Some(second) = self.first_wrong_at(state, byte, row) {
-                return Some((byte, second));
+            if !self.is_settled(state, byte) && !self.is_alike(state, byte, latest) {
+                if let Some(second) = self.first_wrong_at(state, byte, row) {
+                    return Some((byte, second));
+                }
+                latest = Some(byte);
             }
         }
         None
+    }
+
+    // Whether the first entry that matches a state's code and a first byte takes this byte alone, decides rightly, and
+    // compares no bit of the second byte: whatever that is, the state is carried.
+    fn is_settled(&self, state: StateNo, byte: u8) -> bool
+        ensures { OnTrue result (RightAt (meant self.now.automaton) (listed self.now.codes.now) self.now.entries.now state.0 byte) }
+    {
+        let Some(first) = first_at(self.entries, self.code(state), byte) else {
+            return false;
+        };
+        match (first.stride(), first.second_mask()) {
+            (Stride::One, 0) => self.leads(state, byte, first.entry()),
+            _ => false,
+        }
+    }
+
+    // Whether an entry has the code and the class of the state that a byte leads to.
+    fn leads(&self, state: StateNo, byte: u8, entry: Entry) -> bool
+        ensures { Decides result (Leads (meant self.now.automaton) (listed self.now.codes.now) state.0 byte entry) }
+    {
+        let next = self.automaton.next(state, byte);
+        entry.next() == self.code(next) && entry.class() == self.automaton.class(next)
+    }
+
+    // Whether a state goes on from a first byte as it does from an earlier one, and the same entries match both.
+    fn is_alike(&self, state: StateNo, byte: u8, earlier: Option<u8>) -> bool
+        ensures { OnTrue result (Alike (meant self.now.automaton) (listed self.now.codes.now) self.now.entries.now state.0 byte earlier) }
+    {
+        let Some(earlier) = earlier else {
+            return false;
+        };
+        self.automaton.next(state, byte) == self.automaton.next(state, earlier)
+            && all_alike(self.entries, byte, earlier)
     }
 
     // The lowest second byte at which the entries do not carry a state after a first byte. They are looked through once for
