@@ -1,3 +1,4 @@
 pub mod Beyond
 pub mod Loaded
 pub mod Waiting
+pub mod PairLoaded

@@ -1,4 +1,6 @@
 pub mod Feeds
+pub mod PairFeeds
+pub mod PairTold
 pub mod Searches
 pub mod Told
 pub mod Turns

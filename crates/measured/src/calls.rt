@@ -11,7 +11,7 @@ use ternary::refusal::Refusal;
 use ternary::words::StateNo;
 
 // The number for a build: the image's size, or the refusal's number, which is less than any size.
-fn built(answer: Result<usize, Refusal>) -> usize
+pub(crate) fn built(answer: Result<usize, Refusal>) -> usize
     ensures { result ≡ build_number answer }
 {
     match answer {
@@ -21,7 +21,7 @@ fn built(answer: Result<usize, Refusal>) -> usize
 }
 
 // The number for a check: 0 if it accepts, or the refusal's number.
-fn checked(answer: Result<(), Refusal>) -> u8
+pub(crate) fn checked(answer: Result<(), Refusal>) -> u8
     ensures { result ≡ check_number answer }
 {
     match answer {

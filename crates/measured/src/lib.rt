@@ -4,6 +4,8 @@
 // for measuring alone.
 mod calls;
 mod feeds;
+mod pair_calls;
+mod pair_feeds;
 mod searches;
 mod states;
 mod turns;
