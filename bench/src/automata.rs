@@ -68,6 +68,26 @@ pub fn one_byte_on(states: usize) -> Owned {
     })
 }
 
+/// Every other byte leads to a state of its own, whatever the state, and one more byte of each state leads on; all others
+/// lead to state 0.
+pub fn half_on(states: usize) -> Owned {
+    from_rows(states, |at| {
+        let (state, byte) = (at / 256, at % 256);
+        if byte % 2 == 1 {
+            (1 + byte / 2) as u16
+        } else if byte == 74 * state % 256 {
+            ((state + 1) % states) as u16
+        } else {
+            0
+        }
+    })
+}
+
+/// Each byte leads to a state of its own, whatever the state.
+pub fn own_state(states: usize) -> Owned {
+    from_rows(states, |at| (at % 256) as u16)
+}
+
 /// The successors of each state are one of four, pseudo-random for each 32 bytes: no state shares all with another.
 pub fn eight_blocks(states: usize) -> Owned {
     let mut random = Random::new(8);
@@ -166,6 +186,31 @@ pub fn text(length: usize) -> Vec<u8> {
     }
     text.truncate(length);
     text
+}
+
+/// A stream with a word now and then between bytes that no word has.
+pub fn seldom(length: usize) -> Vec<u8> {
+    let mut random = Random::new(21);
+    let mut stream = Vec::with_capacity(length + 256);
+    while stream.len() < length {
+        stream.extend((0..150 + random.below(100)).map(|_| b'0' + random.below(10) as u8));
+        stream.extend(word(&mut random));
+    }
+    stream.truncate(length);
+    stream
+}
+
+/// A stream of the letters of the words, in any order.
+pub fn letters(length: usize) -> Vec<u8> {
+    let mut random = Random::new(22);
+    let letters = b"bdfgklmnprstvzaeiou";
+    (0..length).map(|_| letters[random.below(letters.len())]).collect()
+}
+
+/// A stream of any bytes.
+pub fn uniform(length: usize) -> Vec<u8> {
+    let mut random = Random::new(23);
+    (0..length).map(|_| random.below(256) as u8).collect()
 }
 
 /// A stream that an automaton goes astray on: at each state a byte that leads to another state than 0, where there is one.

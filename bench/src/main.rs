@@ -4,6 +4,9 @@
 mod automata;
 mod measures;
 mod ours;
+mod pair_measures;
+mod pair_ours;
+mod pair_rounds;
 mod plain;
 mod report;
 mod rounds;
@@ -16,4 +19,7 @@ fn main() {
     measures::turns();
     measures::searches();
     measures::growth();
+    pair_measures::builds();
+    pair_measures::checks();
+    pair_measures::feeds();
 }

@@ -20,14 +20,14 @@ use std::time::Duration;
 const LARGEST_IMAGE: usize = 12 + 2 * MOST_STATES + 9 * MOST_ENTRIES;
 
 /// The bytes of a piece that is fed.
-const PIECE: usize = 4096;
+pub const PIECE: usize = 4096;
 
-fn nanoseconds(time: Duration) -> f64 {
+pub fn nanoseconds(time: Duration) -> f64 {
     time.as_nanos() as f64
 }
 
 /// The image that both sides build of an automaton, byte for byte the same.
-fn image_of(automaton: &Automaton<'_>) -> Vec<u8> {
+pub fn image_of(automaton: &Automaton<'_>) -> Vec<u8> {
     let mut work = vec![0; work_needed(MOST_STATES)];
     let mut mine = vec![0; LARGEST_IMAGE];
     let mut out = vec![0; LARGEST_IMAGE];

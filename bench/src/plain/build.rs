@@ -31,7 +31,7 @@ fn build_over(automaton: &Automaton<'_>, plan: &Plan, out: &mut [u8]) -> Result<
 }
 
 /// The bytes that a state shares with the state that it defers to.
-fn deferrable(automaton: &Automaton<'_>, plan: &Plan, state: usize) -> [bool; 256] {
+pub fn deferrable(automaton: &Automaton<'_>, plan: &Plan, state: usize) -> [bool; 256] {
     match plan.places[state].parent {
         None => [false; 256],
         Some(parent) => {

@@ -14,7 +14,7 @@ pub struct Image<'a> {
     pub entries: u16,
 }
 
-fn word(bytes: &[u8], at: usize) -> u16 {
+pub fn word(bytes: &[u8], at: usize) -> u16 {
     u16::from_be_bytes([bytes[at], bytes[at + 1]])
 }
 
@@ -30,7 +30,7 @@ fn read_entry(b: &[u8]) -> Entry {
 }
 
 /// The place in an entry of its first field that breaks a rule.
-fn entry_fault(e: &Entry, limit: u32) -> Option<usize> {
+pub fn entry_fault(e: &Entry, limit: u32) -> Option<usize> {
     if u32::from(e.code_value) >= limit || e.code_value & e.code_mask != e.code_value {
         Some(0)
     } else if u32::from(e.code_mask) >= limit {
@@ -45,7 +45,7 @@ fn entry_fault(e: &Entry, limit: u32) -> Option<usize> {
 }
 
 /// The offset of the first field of the header that breaks a rule.
-fn header_fault(width: u8, states: usize, start: u16, entries: usize) -> Option<usize> {
+pub fn header_fault(width: u8, states: usize, start: u16, entries: usize) -> Option<usize> {
     if width > 16 {
         Some(5)
     } else if !(1..=MOST_STATES).contains(&states) {
@@ -98,6 +98,11 @@ pub fn unpack(bytes: &[u8]) -> Result<Image<'_>, Refusal> {
 }
 
 impl<'a> Image<'a> {
+    /// The bits of a code.
+    pub fn width(&self) -> u8 {
+        self.bytes[5]
+    }
+
     /// The codes of the states, in state order.
     pub fn codes(&self) -> impl Iterator<Item = u16> + use<'a> {
         let codes = &self.bytes[HEADER..HEADER + 2 * self.states as usize];

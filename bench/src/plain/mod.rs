@@ -6,6 +6,7 @@ pub mod column;
 pub mod forest;
 pub mod image;
 pub mod list;
+pub mod pairs;
 pub mod prefix;
 pub mod sorted;
 pub mod turns;

@@ -6,7 +6,7 @@ use super::list::Card;
 use super::words::{Automaton, Mark, Progress, Refusal};
 
 /// The most bytes that one piece may have.
-const LONGEST_PIECE: usize = 65_536;
+pub const LONGEST_PIECE: usize = 65_536;
 
 /// Takes leading bytes of the piece while each has an entry and the marks fit the buffer.
 pub fn walk<C: Card>(

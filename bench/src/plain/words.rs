@@ -20,6 +20,8 @@ pub enum Refusal {
     Malformed(usize),
     Mismatch,
     WrongEntry(u16, u8),
+    WrongPair(u16, u8, u8),
+    CodesDiffer,
 }
 
 impl Refusal {
@@ -36,7 +38,8 @@ impl Refusal {
             Refusal::PieceTooLong => 9,
             Refusal::Malformed(_) => 10,
             Refusal::Mismatch => 11,
-            Refusal::WrongEntry(_, _) => 12,
+            Refusal::WrongEntry(_, _) | Refusal::WrongPair(_, _, _) => 12,
+            Refusal::CodesDiffer => 22,
         }
     }
 }
