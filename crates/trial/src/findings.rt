@@ -1,5 +1,6 @@
 // What was found: how much was tried, and what differed.
 use crate::counts::{Counts, add};
+use crate::two::tallies::Tallies;
 use std::alloc::{AllocError, Global};
 
 // What is compared: a figure, or an answer of the library with what it has to be.
@@ -73,6 +74,34 @@ pub enum Subject {
     Turn,
     // the slots for marks after a turn
     TurnMarks,
+    // why a build of a two-byte image is refused
+    PairBuild,
+    // how many entries a built two-byte image has
+    PairEntries,
+    // the codes of two built images
+    SameCodes,
+    // a check of a two-byte image
+    PairCheck,
+    // whether a two-byte image carries its automaton, by the verdict of this crate
+    PairCarried,
+    // an append to a card
+    PairCard,
+    // a load, a restart and a refused call of a scanner over two cards
+    PairLoad,
+    PairRestart,
+    PairRefused,
+    // where a scanner over two cards stands
+    PairStand,
+    // a feed and its marks, beside the automaton's run
+    PairFeed,
+    PairMarks,
+    // a feed or a walk and its marks, beside the walk of this crate
+    PairWalk,
+    PairWalkMarks,
+    // how many searches a feed makes
+    Searches,
+    // a feed and its marks, beside a scanner of one byte a search
+    OneByte,
 }
 
 // What differed, and the seed of the round in which it did.
@@ -87,6 +116,7 @@ pub struct Difference {
 pub struct Findings {
     pub seed: u64,
     pub counts: Counts,
+    pub tallies: Tallies,
     pub differences: Vec<Difference>,
 }
 
@@ -96,6 +126,7 @@ impl Findings {
         Findings {
             seed: 0,
             counts: Counts::default(),
+            tallies: Tallies::default(),
             differences: Vec::new(heap),
         }
     }

@@ -161,6 +161,11 @@ fn drawn_states(random: &mut Random) -> u16 {
 // An automaton.
 pub fn drawn_machine(heap: Global, random: &mut Random) -> Result<Machine, AllocError> {
     let states = drawn_states(random);
+    machine_of(heap, random, states)
+}
+
+// An automaton of so many states.
+pub fn machine_of(heap: Global, random: &mut Random, states: u16) -> Result<Machine, AllocError> {
     let successors = drawn_successors(heap, random, states)?;
     let classes = drawn_classes(heap, random, states)?;
     Ok(Machine {

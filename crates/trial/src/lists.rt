@@ -50,6 +50,27 @@ pub fn words(
     state: StateNo,
     parent: Option<u16>,
 ) -> Result<usize, AllocError> {
+    let whole = whole(heap, automaton, state, parent)?;
+    Ok(whole.iter().map(|block| block.open).max().unwrap_or(0))
+}
+
+// Whether a shortest list of a state that defers to none may end with a word that covers all bytes and leads to the state
+// itself: the words below it and it are no more than the list has, and it may have this state for that.
+pub fn closes(heap: Global, automaton: Automaton<'_>, state: StateNo) -> Result<bool, AllocError> {
+    let whole = whole(heap, automaton, state, None)?;
+    Ok(
+        whole.iter().all(|block| block.cost.saturating_add(1) == block.open
+            && block.states.contains(&state)),
+    )
+}
+
+// The block of all bytes of a state, alone in its list.
+fn whole(
+    heap: Global,
+    automaton: Automaton<'_>,
+    state: StateNo,
+    parent: Option<u16>,
+) -> Result<Vec<Block>, AllocError> {
     let mut blocks = Vec::new(heap);
     for byte in 0..=255 {
         let to = next(automaton, state, byte);
@@ -63,7 +84,7 @@ pub fn words(
     for _ in 0..8 {
         blocks = halved(heap, &blocks)?;
     }
-    Ok(blocks.iter().map(|block| block.open).max().unwrap_or(0))
+    Ok(blocks)
 }
 
 // The blocks of which each has two of these.

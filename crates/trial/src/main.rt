@@ -8,6 +8,7 @@ use crate::figures::try_figures;
 use crate::findings::Findings;
 use crate::rounds::try_round;
 use crate::trial::Trial;
+use crate::two::turns::{try_large_turn, try_turn};
 use std::alloc::AllocError;
 use std::env;
 
@@ -29,6 +30,7 @@ mod rounds;
 mod scan;
 mod streams;
 mod trial;
+mod two;
 mod verdict;
 mod wrong;
 
@@ -44,6 +46,7 @@ fn main(rt: HostRuntime) -> anyhow::Result<()> {
     let mut trial = Trial::new(rt.alloc());
     try_figures(rt.alloc(), &mut trial.findings)?;
     try_rounds(&mut trial, rounds, seed)?;
+    try_turns(&mut trial, rounds, seed)?;
     print_findings(&rt, &trial.findings)
 }
 
@@ -64,10 +67,24 @@ fn try_rounds(trial: &mut Trial, rounds: u64, seed: u64) -> Result<(), AllocErro
     Ok(())
 }
 
+// Makes so many turns of two bytes in a search, each with the next seed, and a large one behind every twentieth.
+fn try_turns(trial: &mut Trial, turns: u64, seed: u64) -> Result<(), AllocError> {
+    for turn in 0..turns {
+        trial.begin(seed.wrapping_add(turn));
+        try_turn(trial)?;
+        if turn % 20 == 19 {
+            try_large_turn(trial, 512)?;
+        }
+    }
+    Ok(())
+}
+
 // Prints the counts and each difference.
 fn print_findings(rt: &HostRuntime, findings: &Findings) -> anyhow::Result<()> {
     let counts = findings.counts;
     println!(rt; "{counts}")?;
+    let tallies = findings.tallies;
+    println!(rt; "{tallies}")?;
     for difference in findings.differences.iter() {
         println!(rt; "seed {}: {:?}", difference.seed, difference.subject)?;
     }

@@ -73,7 +73,7 @@ pub fn built(heap: Global, automaton: Automaton<'_>) -> Result<Made, AllocError>
 }
 
 // The bytes that were written.
-fn cut(mut bytes: Vec<u8>, size: Result<usize, Refusal>) -> Made {
+pub fn cut(mut bytes: Vec<u8>, size: Result<usize, Refusal>) -> Made {
     bytes.truncate(size?);
     Ok(bytes)
 }

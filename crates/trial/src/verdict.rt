@@ -40,7 +40,7 @@ fn carries(automaton: Automaton<'_>, parts: &Parts, state: StateNo, byte: u8) ->
 }
 
 // Whether no bit that an entry compares differs.
-fn accepts(entry: &Entry, code: StateCode, byte: u8) -> bool {
+pub fn accepts(entry: &Entry, code: StateCode, byte: u8) -> bool {
     let code_differs = (entry.code_value() ^ code.0) & entry.code_mask();
     let byte_differs = (entry.byte_value() ^ byte) & entry.byte_mask();
     code_differs == 0 && byte_differs == 0
