@@ -83,7 +83,8 @@ fn feed<C: Card>(
     slots: usize,
 ) -> Result<Answer, AllocError>
     ensures { IfOk result (λ a. Step
-        (seen C.entries C.size two.now one.now scanner.old) (feeding piece.now.items slots) (replied a)
+        (seen C.entries C.size two.now one.now scanner.old)
+        (feeding piece.now.items slots) (replied a)
         (seen C.entries C.size two.now one.now scanner.new)) }
 {
     let mut marks = vec![in heap; Mark::default(); slots]?;
