@@ -1,211 +1,324 @@
 #![tactic(auto)]
 
-// Two-byte images that are built, checked, loaded and fed. Every expected value is worked out by hand, but those of
-// `takes_what_one_byte_a_search_takes`, which are the one-byte scanner's.
+// Two-byte images that are built, read, checked, loaded and fed. Every expected value is worked out by hand.
 #[cfg(test)]
 mod tests {
+    use automaton::file::read;
     use automaton::words::Automaton;
-    use builder::build::build;
     use card::list::ListCard;
     use pair_builder::build::build as build_pairs;
+    use pair_image::reader::unpack;
+    use pair_image::writer::pack;
     use pair_scanner::lent::PairScanner;
     use pair_table::check::check as check_pairs;
     use pairs::list::PairCard;
     use pairs::pair::PairEntry;
-    use scanner::scanner::Scanner;
+    use pairs::stride::Stride;
     use std::test::Fail;
     use ternary::entry::Entry;
     use ternary::refusal::Refusal;
     use ternary::words::{Mark, Progress, StateCode, StateNo};
 
-    // The two-byte image of the automaton that marks each "ab", and five bytes behind it that a build leaves.
-    const AB: &[u8; 71] = b"\
+    // The automaton that marks each "ab": every "a" leads to state 1, "b" from state 1 to state 2 of class 7, all else to
+    // state 0.
+    const FILE: &[u8; 40] = b"\
+        \x01\x00\x00\x00\x23\x00\x03\x00\x00\
+        \x00\x07\x00\x00\x00\x61\x61\x00\x01\
+        \x00\x0b\x00\x00\x00\x61\x61\x00\x01\x62\x62\x00\x02\
+        \x00\x07\x07\x00\x00\x61\x61\x00\x01";
+
+    // Its one-byte image.
+    const ONE: &[u8; 45] = b"\
+        \x01\x00\x00\x00\x28\x02\x00\x03\x00\x00\x00\x03\
+        \x00\x00\x00\x01\x00\x02\
+        \x00\x01\x00\x03\x62\xff\x00\x02\x07\
+        \x00\x00\x00\x00\x61\xff\x00\x01\x00\
+        \x00\x00\x00\x00\x00\x00\x00\x00\x00";
+
+    // Its two-byte image: the closing entry of the root stands twice, behind each of the root's entries.
+    const TWO: &[u8; 66] = b"\
         \x03\x00\x00\x00\x3d\x02\x00\x03\x00\x00\x00\x04\
         \x00\x00\x00\x01\x00\x02\
         \x00\x01\x00\x03\x62\xff\x00\x00\x00\x02\x07\x01\
         \x00\x00\x00\x00\x61\xff\x00\x00\x00\x01\x00\x01\
         \x00\x00\x00\x00\x00\x00\x61\xff\x00\x01\x00\x02\
-        \x00\x00\x00\x00\x00\x00\x00\x00\x00\x00\x00\x02\
-        \x09\x09\x09\x09\x09";
+        \x00\x00\x00\x00\x00\x00\x00\x00\x00\x00\x00\x02";
+
+    // The automaton in which "b" leads to state 1, of class 7, and all else to state 0: its file and its two images.
+    const B_FILE: &[u8; 27] = b"\
+        \x01\x00\x00\x00\x16\x00\x02\x00\x00\
+        \x00\x07\x00\x00\x00\x62\x62\x00\x01\
+        \x00\x07\x07\x00\x00\x62\x62\x00\x01";
+
+    const B_ONE: &[u8; 34] = b"\
+        \x01\x00\x00\x00\x1d\x01\x00\x02\x00\x00\x00\x02\
+        \x00\x00\x00\x01\
+        \x00\x00\x00\x00\x62\xff\x00\x01\x07\
+        \x00\x00\x00\x00\x00\x00\x00\x00\x00";
+
+    const B_TWO: &[u8; 52] = b"\
+        \x03\x00\x00\x00\x2f\x01\x00\x02\x00\x00\x00\x03\
+        \x00\x00\x00\x01\
+        \x00\x00\x00\x00\x62\xff\x00\x00\x00\x01\x07\x01\
+        \x00\x00\x00\x00\x00\x00\x62\xff\x00\x01\x07\x02\
+        \x00\x00\x00\x00\x00\x00\x00\x00\x00\x00\x00\x02";
 
     const NO_MARK: Mark = Mark { place: 9, class: 9 };
 
-    // Automata by their successors.
-    #[derive(Clone, Copy)]
-    enum Kind {
-        // "a" leads to state 1, "b" after it to state 2, all else to state 0
-        Ab,
-        // "b" leads to state 1, all else to state 0
-        B,
-        // a mixture
-        Mixed(u16),
-    }
-
-    // The successor of a state on a byte.
-    fn successor(kind: Kind, state: u16, byte: u8) -> u16 {
-        let s = state % 512;
-        let b = byte as u16;
-        match kind {
-            Kind::Ab => {
-                if byte == b'a' {
-                    1
-                } else if byte == b'b' && s == 1 {
-                    2
-                } else {
-                    0
-                }
-            }
-            Kind::B => u16::from(byte == b'b'),
-            Kind::Mixed(seed) => {
-                let x = (b / 16 * 7 + s * 5 + seed % 64) % 23;
-                if x < 5 { (x + s + b % 2) % 6 } else { 0 }
-            }
-        }
-    }
-
-    // Fills a buffer with the successors, state by state.
-    fn fill(kind: Kind, successors: &mut [StateNo]) {
-        for (i, next) in successors.iter_mut().enumerate() {
-            let state = (i / 256 % 512) as u16;
-            let byte = (i % 256) as u8;
-            *next = StateNo(successor(kind, state, byte));
-        }
-    }
-
-    // An automaton that starts at state 0.
-    fn automaton<'a>(successors: &'a [StateNo], classes: &'a [u8]) -> Automaton<'a> {
-        Automaton {
-            states: (classes.len() % 1024) as u16,
-            start: StateNo(0),
-            successors,
-            classes,
-        }
-    }
-
-    fn one_any() -> Entry {
-        Entry::new(0, 0, 0, 0, StateCode(0), 0)
-    }
-
-    #[test]
-    fn builds_ab_and_leaves_the_bytes_behind(rt: HostRuntime) -> Result<(), Fail> {
-        let mut successors = [StateNo(0); 768];
-        fill(Kind::Ab, &mut successors);
-        let ab = automaton(&successors, &[0, 0, 7]);
-        let mut work = [7; 8201];
-        let mut out = [9; 71];
-        assert_eq!(rt; build_pairs(ab, &mut work, &mut out), Ok(66));
-        assert!(rt; &out == AB);
-        check_pairs(ab, &out[0..66])?;
-        // The last two entries swapped, and the first entry removed.
-        let mut swapped = out;
-        swapped[48] = 0;
-        swapped[49] = 0;
-        swapped[51] = 0;
-        swapped[60] = 0x61;
-        swapped[61] = 0xff;
-        swapped[63] = 1;
-        assert_eq!(rt;
-            check_pairs(ab, &swapped[0..66]),
-            Err(Refusal::WrongPair(StateNo(0), 0, 0x61))
-        );
-        Ok(())
-    }
-
-    // What a feed of "b" behind another byte answers without a slot: the first byte is taken alone.
-    #[test]
-    fn takes_the_first_byte_alone(rt: HostRuntime) -> Result<(), Fail> {
-        let mut successors = [StateNo(0); 512];
-        fill(Kind::B, &mut successors);
-        let b = automaton(&successors, &[0, 7]);
-        let mut work = [7; 8196];
-        let mut one_image = [0; 64];
-        let mut two_image = [0; 128];
-        let one_size = build(b, &mut work, &mut one_image)?;
-        let two_size = build_pairs(b, &mut work, &mut two_image)?;
-        let mut one_places = [one_any(); 4];
-        let mut two_places = [PairEntry::default(); 4];
-        let mut one = ListCard::new(&mut one_places);
-        let mut two = PairCard::new(&mut two_places);
-        let mut scanner = PairScanner::new();
-        assert_eq!(rt;
-            scanner.feed(&two, &one, b"x", &mut [NO_MARK; 0]),
-            Err(Refusal::NotLoaded)
-        );
-        let two_bytes = two_image.get(0..two_size).unwrap_or(b"");
-        let one_bytes = one_image.get(0..one_size).unwrap_or(b"");
-        scanner.load(&mut two, &mut one, b, two_bytes, one_bytes)?;
-        let progress = scanner.feed(&two, &one, b"xb", &mut [NO_MARK; 0])?;
-        assert_eq!(rt;
-            progress,
-            Progress {
-                taken: 1,
-                marks: 0,
-                code: StateCode(0),
-                marks_full: true,
-                searches: 2,
-            }
-        );
-        let mut marks = [NO_MARK; 2];
-        let again = scanner.feed(&two, &one, b"bxxbx", &mut marks)?;
-        assert_eq!(rt; again.taken, 5);
-        assert_eq!(rt; again.searches, 4);
-        assert_eq!(rt;
+    // What a walk answers that finds an entry at each search.
+    fn progress(taken: usize, marks: usize, code: u16, full: bool, searches: usize) -> Progress {
+        Progress {
+            taken,
             marks,
-            [Mark { place: 0, class: 7 }, Mark { place: 3, class: 7 }]
-        );
-        Ok(())
-    }
-
-    // Both scanners on the same pieces, with so many slots.
-    fn same(rt: HostRuntime, seed: u16, slots: usize) -> Result<bool, Fail> {
-        let mut successors = [StateNo(0); 1536];
-        fill(Kind::Mixed(seed), &mut successors);
-        let classes = [0, 0, 3, 0, 200, 0];
-        let mixed = automaton(&successors, &classes);
-        let mut work = [7; 8228];
-        let mut one_image = [0; 3000];
-        let mut two_image = [0; 6000];
-        let one_size = build(mixed, &mut work, &mut one_image)?;
-        let two_size = build_pairs(mixed, &mut work, &mut two_image)?;
-        let two_bytes = two_image.get(0..two_size).unwrap_or(b"");
-        let one_bytes = one_image.get(0..one_size).unwrap_or(b"");
-        let mut one_places = [one_any(); 300];
-        let mut own_places = [one_any(); 300];
-        let mut two_places = [PairEntry::default(); 500];
-        let mut one = ListCard::new(&mut one_places);
-        let mut two = PairCard::new(&mut two_places);
-        let mut scanner = PairScanner::new();
-        scanner.load(&mut two, &mut one, mixed, two_bytes, one_bytes)?;
-        let mut plain = Scanner::new(ListCard::new(&mut own_places));
-        plain.load(mixed, one_bytes)?;
-        let mut piece = vec![in rt.alloc(); 0; 97]?;
-        for (i, byte) in piece.as_mut_slice().iter_mut().enumerate() {
-            *byte = ((i % 256 * 37 + i / 7 % 256 * 11 + seed as usize % 256 * 5) % 256) as u8;
+            code: StateCode(code),
+            marks_full: full,
+            searches,
         }
-        let mut marks = [NO_MARK; 40];
-        let mut others = [NO_MARK; 40];
-        let left = marks.get_mut(0..slots).unwrap_or(&mut []);
-        let right = others.get_mut(0..slots).unwrap_or(&mut []);
-        let mine = scanner.feed(&two, &one, piece.as_slice(), left)?;
-        let theirs = plain.feed(piece.as_slice(), right)?;
-        Ok(
-            mine.taken == theirs.taken
-                && mine.marks == theirs.marks
-                && mine.code == theirs.code
-                && mine.marks_full == theirs.marks_full
-                && mine.searches <= theirs.searches
-                && mine.taken <= mine.searches.saturating_mul(2)
-                && marks == others,
-        )
     }
 
+    // The image that is built for the automaton in a file, into so many bytes.
+    fn built(file: &[u8], out: &mut [u8]) -> Result<usize, Refusal> {
+        let mut successors = [StateNo(0); 768];
+        let mut classes = [0; 3];
+        let header = read(file, &mut successors, &mut classes)?;
+        let states = header.states as usize;
+        let automaton = Automaton {
+            states: header.states,
+            start: header.start,
+            successors: successors.get(0..256 * states).unwrap_or(&[]),
+            classes: classes.get(0..states).unwrap_or(&[]),
+        };
+        build_pairs(automaton, &mut [7; 8201], out)
+    }
+
+    // Each image, and the bytes behind it, which a build leaves.
     #[test]
-    fn takes_what_one_byte_a_search_takes(rt: HostRuntime) -> Result<(), Fail> {
-        for seed in 0..4 {
-            assert!(rt; same(rt, seed, seed as usize)?);
-            assert!(rt; same(rt, seed + 20, 7)?);
-            assert!(rt; same(rt, seed + 40, 40)?);
+    fn builds_two_automata(rt: HostRuntime) {
+        let mut out = [9; 71];
+        assert_eq!(rt; built(FILE, &mut out), Ok(66));
+        assert!(rt; &out[0..66] == TWO.as_slice());
+        assert!(rt; out[66..71] == [9; 5]);
+        let mut out = [9; 53];
+        assert_eq!(rt; built(B_FILE, &mut out), Ok(52));
+        assert!(rt; &out[0..52] == B_TWO.as_slice());
+        assert!(rt; out[52] == 9);
+    }
+
+    // The image of "ab" with four bytes from `at` on changed.
+    fn changed(at: usize, new: [u8; 4]) -> [u8; 66] {
+        let mut bytes = *TWO;
+        if at < 63 {
+            let [a, b, c, d] = new;
+            bytes[at] = a;
+            bytes[at + 1] = b;
+            bytes[at + 2] = c;
+            bytes[at + 3] = d;
         }
-        Ok(())
+        bytes
+    }
+
+    // That image with four bytes changed, and the offset of the field that then breaks a rule.
+    #[test]
+    fn refuses_each_broken_rule(rt: HostRuntime) {
+        let cases = [
+            (0, [1, 0, 0, 0], 0), // version of a one-byte image
+            (1, [0, 0, 0, 0x3e], 1), // length of the rest
+            (5, [17, 0, 3, 0], 5), // 17 code bits
+            (6, [0, 0, 0, 0], 6), // no state
+            (6, [0, 3, 0, 3], 8), // start state 3 of three
+            (8, [0, 0, 0x10, 1], 10), // 4,097 entries
+            (8, [0, 0, 0, 3], 12), // the size is not that of three entries
+            (14, [0, 1, 0, 4], 16), // code 4 of two bits
+            (18, [0, 1, 0, 2], 18), // code value with a bit under a star
+            (18, [0, 1, 0, 7], 20), // code mask 7 of two bits
+            (20, [0, 3, 0x62, 0xfd], 22), // byte value with a bit under a star
+            (22, [0x62, 0xff, 1, 0], 24), // second byte value under a star
+            (48, [0x61, 0xfe, 0, 1], 48), // second byte value with a bit under a star
+            (24, [0, 0, 0, 4], 26), // successor code 4 of two bits
+            (26, [0, 2, 7, 0], 29), // stride 0
+            (26, [0, 2, 7, 3], 29), // stride 3
+            (62, [0, 0, 0, 3], 65), // stride 3 in the last entry
+        ];
+        for (at, new, offset) in cases {
+            let refused = unpack(&changed(at, new)).map(|_| ());
+            assert_eq!(rt; refused, Err(Refusal::Malformed(offset)));
+        }
+    }
+
+    // What a check of the automaton "ab" answers of a table with this start and these entries.
+    fn checked(start: u16, entries: &[PairEntry]) -> Result<(), Refusal> {
+        let mut successors = [StateNo(0); 768];
+        let mut classes = [0; 3];
+        let header = read(FILE, &mut successors, &mut classes)?;
+        let automaton = Automaton {
+            states: header.states,
+            start: header.start,
+            successors: &successors,
+            classes: &classes,
+        };
+        let codes = [StateCode(0), StateCode(1), StateCode(2)];
+        let mut bytes = [0; 100];
+        let size = pack(2, StateNo(start), &codes, entries, &mut bytes)?;
+        check_pairs(automaton, bytes.get(0..size).unwrap_or(&[]))
+    }
+
+    // An entry over any code.
+    fn pair(byte: Option<u8>, second: Option<u8>, next: u16, stride: Stride) -> PairEntry {
+        let (value, mask) = compared(byte);
+        let (second_value, second_mask) = compared(second);
+        let entry = Entry::new(0, 0, value, mask, StateCode(next), 0);
+        PairEntry::new(entry, second_value, second_mask, stride)
+    }
+
+    // The value and mask that compare a byte, or nothing.
+    fn compared(byte: Option<u8>) -> (u8, u8) {
+        match byte {
+            Some(byte) => (byte, 255),
+            None => (0, 0),
+        }
+    }
+
+    // The table of "ab", and tables that do not carry it.
+    #[test]
+    fn checks_tables_of_ab(rt: HostRuntime) {
+        let b = Entry::new(1, 3, b'b', 255, StateCode(2), 7);
+        let b = PairEntry::new(b, 0, 0, Stride::One);
+        let a = pair(Some(b'a'), None, 1, Stride::One);
+        let second_a = pair(None, Some(b'a'), 1, Stride::Two);
+        let closing = pair(None, None, 0, Stride::Two);
+        let wrong = |state, byte, second| Err(Refusal::WrongPair(StateNo(state), byte, second));
+        assert_eq!(rt; checked(0, &[b, a, second_a, closing]), Ok(()));
+        assert_eq!(rt;
+            checked(1, &[b, a, second_a, closing]),
+            Err(Refusal::Mismatch)
+        );
+        // The closing entry stands before the one that looks for "a" in second place.
+        assert_eq!(rt; checked(0, &[b, a, closing, second_a]), wrong(0, 0, b'a'));
+        // Both bytes are passed over, although the first gives a mark.
+        assert_eq!(rt; checked(0, &[a, second_a, closing]), wrong(1, b'b', 0));
+        // No entry is left for a second byte but "a".
+        assert_eq!(rt; checked(0, &[b, a, second_a]), wrong(0, 0, 0));
+        // Every entry takes one byte, and none compares the second.
+        let otherwise = pair(None, None, 0, Stride::One);
+        assert_eq!(rt; checked(0, &[b, a, otherwise]), Ok(()));
+        // The first byte is not looked at.
+        let any = pair(None, Some(b'a'), 1, Stride::One);
+        assert_eq!(rt; checked(0, &[b, any, otherwise]), wrong(0, 0, b'a'));
+    }
+
+    // Loads an automaton's two images onto cards of so many places, and feeds it a piece.
+    fn fed(
+        images: (&[u8], &[u8], &[u8]),
+        places: (usize, usize),
+        piece: &[u8],
+        marks: &mut [Mark],
+    ) -> Result<Progress, Refusal> {
+        let (file, two_image, one_image) = images;
+        let mut successors = [StateNo(0); 768];
+        let mut classes = [0; 3];
+        let header = read(file, &mut successors, &mut classes)?;
+        let states = header.states as usize;
+        let automaton = Automaton {
+            states: header.states,
+            start: header.start,
+            successors: successors.get(0..256 * states).unwrap_or(&[]),
+            classes: classes.get(0..states).unwrap_or(&[]),
+        };
+        let mut two_places = [PairEntry::default(); 8];
+        let mut one_places = [Entry::default(); 8];
+        let (two, one) = places;
+        let mut two = PairCard::new(two_places.get_mut(0..two).unwrap_or(&mut []));
+        let mut one = ListCard::new(one_places.get_mut(0..one).unwrap_or(&mut []));
+        let mut scanner = PairScanner::new();
+        scanner.load(&mut two, &mut one, automaton, two_image, one_image)?;
+        scanner.feed(&two, &one, piece, marks)
+    }
+
+    // Pieces with so many slots, the answers, and what the slots then hold.
+    #[test]
+    fn feeds_pieces(rt: HostRuntime) {
+        let ab = (FILE.as_slice(), TWO.as_slice(), ONE.as_slice());
+        let b = (B_FILE.as_slice(), B_TWO.as_slice(), B_ONE.as_slice());
+        let mark = |place| Mark { place, class: 7 };
+        let cases = [
+            (
+                ab,
+                2,
+                b"xabab".as_slice(),
+                progress(5, 2, 2, false, 4),
+                [mark(2), mark(4)],
+            ),
+            (
+                ab,
+                1,
+                b"xabab".as_slice(),
+                progress(4, 1, 1, true, 4),
+                [mark(2), NO_MARK],
+            ),
+            (
+                ab,
+                0,
+                b"xx".as_slice(),
+                progress(2, 0, 0, false, 1),
+                [NO_MARK, NO_MARK],
+            ),
+            (
+                ab,
+                0,
+                b"x".as_slice(),
+                progress(1, 0, 0, false, 1),
+                [NO_MARK, NO_MARK],
+            ),
+            (
+                ab,
+                0,
+                b"".as_slice(),
+                progress(0, 0, 0, false, 0),
+                [NO_MARK, NO_MARK],
+            ),
+            // the mark of the second byte has no slot
+            (
+                b,
+                0,
+                b"xb".as_slice(),
+                progress(1, 0, 0, true, 2),
+                [NO_MARK, NO_MARK],
+            ),
+            (
+                b,
+                2,
+                b"bxxbx".as_slice(),
+                progress(5, 2, 0, false, 4),
+                [mark(0), mark(3)],
+            ),
+        ];
+        for (images, slots, piece, answer, left) in cases {
+            let mut marks = [NO_MARK; 2];
+            let lent = marks.get_mut(0..slots).unwrap_or(&mut []);
+            assert_eq!(rt; fed(images, (4, 3), piece, lent), Ok(answer));
+            assert_eq!(rt; marks, left);
+        }
+    }
+
+    // Images and places that a load refuses.
+    #[test]
+    fn refuses_loads(rt: HostRuntime) {
+        // The one-byte image of "ab" with codes of three bits.
+        let mut wide = *ONE;
+        wide[5] = 3;
+        let file = FILE.as_slice();
+        let (two, one, wide) = (TWO.as_slice(), ONE.as_slice(), wide.as_slice());
+        let cases = [
+            ((file, one, one), (4, 3), Refusal::Malformed(0)),
+            ((file, two, two), (4, 3), Refusal::Malformed(0)),
+            ((file, B_TWO.as_slice(), one), (4, 3), Refusal::Mismatch),
+            ((file, two, B_ONE.as_slice()), (4, 3), Refusal::Mismatch),
+            ((file, two, wide), (3, 2), Refusal::CodesDiffer),
+            ((file, two, one), (3, 3), Refusal::CardTooSmall),
+            ((file, two, one), (4, 2), Refusal::CardTooSmall),
+        ];
+        for (images, places, why) in cases {
+            assert_eq!(rt; fed(images, places, b"x", &mut []), Err(why));
+        }
     }
 }
