@@ -1,5 +1,6 @@
 // Two-byte tables with a change.
 use crate::altered::set;
+use crate::parts::Parts;
 use crate::random::Random;
 use crate::two::parting::PairParts;
 use pairs::pair::PairEntry;
@@ -82,4 +83,21 @@ fn changed(random: &mut Random, pair: PairEntry, code: StateCode) -> PairEntry {
         class,
     );
     PairEntry::new(entry, pair.second_value(), second_mask, stride)
+}
+
+// A one-byte table of the same keys and successors, with a class of no meaning for every other entry and none for the rest.
+pub fn reclassed(random: &mut Random, parts: &Parts) -> Result<Parts, AllocError> {
+    let mut parts = parts.clone()?;
+    for entry in parts.entries.iter_mut() {
+        let class = if random.one_in(2) { 5 } else { 0 };
+        *entry = Entry::new(
+            entry.code_value(),
+            entry.code_mask(),
+            entry.byte_value(),
+            entry.byte_mask(),
+            entry.next(),
+            class,
+        );
+    }
+    Ok(parts)
 }

@@ -2,9 +2,10 @@
 use crate::altered::altered;
 use crate::counts::add;
 use crate::findings::Subject;
+use crate::parts::Parts;
 use crate::streams::{drawn_piece, drawn_slots};
 use crate::trial::Trial;
-use crate::two::altering::pairs_altered;
+use crate::two::altering::{pairs_altered, reclassed};
 use crate::two::instances::Instance;
 use crate::two::stepping::step_through;
 use crate::two::touring::{STALE, make_tour};
@@ -91,10 +92,20 @@ fn tour_columns(trial: &mut Trial, instance: &Instance) -> Result<(), AllocError
     )
 }
 
+// The one-byte table of an instance with one change, or with classes of no meaning, so that a first byte whose second has no slot
+// has a mark itself.
+fn drawn_one(trial: &mut Trial, instance: &Instance) -> Result<Parts, AllocError> {
+    if trial.random.one_in(2) {
+        altered(&mut trial.random, &instance.one)
+    } else {
+        reclassed(&mut trial.random, &instance.one)
+    }
+}
+
 // A walk over tables of which one or both are changed, from the code of any state.
 fn try_walk(trial: &mut Trial, instance: &Instance) -> Result<(), AllocError> {
     let two = pairs_altered(&mut trial.random, &instance.two)?;
-    let one = altered(&mut trial.random, &instance.one)?;
+    let one = drawn_one(trial, instance)?;
     let mut pair_places = pair_places(trial.heap, two.entries.len())?;
     let mut places = places(trial.heap, one.entries.len())?;
     let mut pairs = PairCard::new(pair_places.as_mut_slice());
