@@ -7,6 +7,7 @@ mod ours;
 mod pair_measures;
 mod pair_ours;
 mod pair_rounds;
+mod patterns;
 mod plain;
 mod report;
 mod rounds;
@@ -22,4 +23,5 @@ fn main() {
     pair_measures::builds();
     pair_measures::checks();
     pair_measures::feeds();
+    patterns::compiles();
 }

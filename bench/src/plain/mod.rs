@@ -7,6 +7,7 @@ pub mod forest;
 pub mod image;
 pub mod list;
 pub mod pairs;
+pub mod patterns;
 pub mod prefix;
 pub mod sorted;
 pub mod turns;

@@ -1,0 +1,3 @@
+pub mod Filed
+pub mod Records
+pub mod Writes

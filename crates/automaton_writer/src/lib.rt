@@ -1,0 +1,5 @@
+//! Automata written as automaton files.
+#![tactic(auto)]
+
+mod record;
+pub mod write;

@@ -1,0 +1,2 @@
+pub mod Marking
+pub mod Declining

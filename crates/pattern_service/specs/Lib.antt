@@ -1,0 +1,3 @@
+pub mod MarkedBy
+pub mod Filed
+pub mod Service

@@ -1,0 +1,4 @@
+pub mod StepAny
+pub mod NextLemmas
+pub mod StateLemmas
+pub mod IndexLemmas
