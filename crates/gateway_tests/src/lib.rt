@@ -257,10 +257,27 @@ mod tests {
                 (Ask::Turn(b"bab", 1, 1), "5: 1 to 2 (0, 7)"),
                 (Ask::Turn(b"bab", 1, 1), "63: 1 to 2 (0, 7)"),
                 (Ask::Turn(b"bab", 1, 1), "5: 1 to 1"),
+            ],
+        )?;
+        Ok(())
+    }
+
+    #[test]
+    fn the_place_of_the_turn_is_kept_or_reset(rt: HostRuntime) -> Result<(), Fail> {
+        play(
+            &rt,
+            rt.alloc(),
+            &[
+                (Ask::Load(45), "accepted"),
+                (Ask::Open(63), "accepted"),
+                (Ask::Open(5), "accepted"),
+                (Ask::Open(0), "accepted"),
+                (Ask::Post(5, 0, 2), "accepted"),
+                (Ask::Turn(b"ab", 1, 1), "5: 1 to 1"),
                 // refused turns, and those that find none waiting, keep the place
-                (Ask::Turn(b"bab", 0, 0), "refused 18"),
-                (Ask::Turn(b"bab", 1, 1), "5: 1 to 2 (0, 7)"),
-                (Ask::Turn(b"bab", 1, 1), "none waits"),
+                (Ask::Turn(b"ab", 0, 0), "refused 18"),
+                (Ask::Turn(b"ab", 1, 1), "5: 1 to 2 (0, 7)"),
+                (Ask::Turn(b"ab", 1, 1), "none waits"),
                 (Ask::Post(0, 0, 1), "accepted"),
                 (Ask::Post(63, 0, 1), "accepted"),
                 (Ask::Turn(b"x", 1, 1), "63: 1 to 0"),

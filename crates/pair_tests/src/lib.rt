@@ -14,6 +14,7 @@ mod tests {
     use pairs::list::PairCard;
     use pairs::pair::PairEntry;
     use pairs::stride::Stride;
+    use std::process::Abort;
     use std::test::Fail;
     use ternary::entry::Entry;
     use ternary::refusal::Refusal;
@@ -234,70 +235,66 @@ mod tests {
         scanner.feed(&two, &one, piece, marks)
     }
 
-    // Pieces with so many slots, the answers, and what the slots then hold.
-    #[test]
-    fn feeds_pieces(rt: HostRuntime) {
-        let ab = (FILE.as_slice(), TWO.as_slice(), ONE.as_slice());
-        let b = (B_FILE.as_slice(), B_TWO.as_slice(), B_ONE.as_slice());
-        let mark = |place| Mark { place, class: 7 };
-        let cases = [
-            (
-                ab,
-                2,
-                b"xabab".as_slice(),
-                progress(5, 2, 2, false, 4),
-                [mark(2), mark(4)],
-            ),
-            (
-                ab,
-                1,
-                b"xabab".as_slice(),
-                progress(4, 1, 1, true, 4),
-                [mark(2), NO_MARK],
-            ),
-            (
-                ab,
-                0,
-                b"xx".as_slice(),
-                progress(2, 0, 0, false, 1),
-                [NO_MARK, NO_MARK],
-            ),
-            (
-                ab,
-                0,
-                b"x".as_slice(),
-                progress(1, 0, 0, false, 1),
-                [NO_MARK, NO_MARK],
-            ),
-            (
-                ab,
-                0,
-                b"".as_slice(),
-                progress(0, 0, 0, false, 0),
-                [NO_MARK, NO_MARK],
-            ),
-            // the mark of the second byte has no slot
-            (
-                b,
-                0,
-                b"xb".as_slice(),
-                progress(1, 0, 0, true, 2),
-                [NO_MARK, NO_MARK],
-            ),
-            (
-                b,
-                2,
-                b"bxxbx".as_slice(),
-                progress(5, 2, 0, false, 4),
-                [mark(0), mark(3)],
-            ),
-        ];
-        for (images, slots, piece, answer, left) in cases {
+    // A feed: so many slots, a piece, the answer, and what two slots then hold.
+    #[derive(Clone, Copy)]
+    struct Feed {
+        slots: usize,
+        piece: &'static [u8],
+        answer: Progress,
+        left: [Mark; 2],
+    }
+
+    fn row(slots: usize, piece: &'static [u8], answer: Progress, left: [Mark; 2]) -> Feed {
+        Feed {
+            slots,
+            piece,
+            answer,
+            left,
+        }
+    }
+
+    // Passes feeds of new scanners that are loaded with these images.
+    fn check_feeds(rt: &impl Abort, images: (&[u8], &[u8], &[u8]), feeds: &[Feed]) {
+        for Feed {
+            slots,
+            piece,
+            answer,
+            left,
+        } in feeds.iter().copied() {
             let mut marks = [NO_MARK; 2];
             let lent = marks.get_mut(0..slots).unwrap_or(&mut []);
             assert_eq!(rt; fed(images, (4, 3), piece, lent), Ok(answer));
             assert_eq!(rt; marks, left);
         }
+    }
+
+    #[test]
+    fn feeds_pieces(rt: HostRuntime) {
+        let images = (FILE.as_slice(), TWO.as_slice(), ONE.as_slice());
+        let mark = |place| Mark { place, class: 7 };
+        let none = [NO_MARK, NO_MARK];
+        let two = [mark(2), mark(4)];
+        let feeds = [
+            row(2, b"xabab", progress(5, 2, 2, false, 4), two),
+            row(1, b"xabab", progress(4, 1, 1, true, 4), [mark(2), NO_MARK]),
+            row(0, b"xx", progress(2, 0, 0, false, 1), none),
+            row(0, b"x", progress(1, 0, 0, false, 1), none),
+            row(0, b"", progress(0, 0, 0, false, 0), none),
+        ];
+        check_feeds(&rt, images, &feeds);
+    }
+
+    // Where the mark of a second byte has no slot, the first is searched on the one-byte card.
+    #[test]
+    fn feeds_a_piece_whose_second_mark_has_no_slot(rt: HostRuntime) {
+        let images = (B_FILE.as_slice(), B_TWO.as_slice(), B_ONE.as_slice());
+        let mark = |place| Mark { place, class: 7 };
+        let two = [mark(0), mark(3)];
+        let feeds = [
+            row(0, b"xb", progress(1, 0, 0, true, 2), [NO_MARK, NO_MARK]),
+            row(2, b"bxxbx", progress(5, 2, 0, false, 4), two),
+        ];
+        check_feeds(&rt, images, &feeds);
     }
 
     // Images and places that a load refuses.
