@@ -1,5 +1,5 @@
 -- From the words of a whole row to its shortest list. Assumes nothing.
-use Rattle.std.proofs.Common.{◌≡◌, ℕ, ◌+◌, ◌<◌, ◌≤◌, Bool, Some, Option, eqb, List, [], map, length, slice_get, sym, ap, ◌∙◌, arith, eqb-true}
+use Rattle.std.proofs.Common.{◌≡◌, ℕ, ◌+◌, ◌<◌, ◌≤◌, Bool, Some, Option, eqb, List, [], map, length, slice_get, sym, ap, ◌∙◌, subst, arith, eqb-true}
 use lib.ListN.{length-map}
 use Rattle.std.specs.List.{AllByRecursion}
 use Rattle.ternary.specs.declared.words.StateNo.{StateNo}
@@ -13,7 +13,7 @@ use Rattle.prefix.specs.States.{state_no}
 use Rattle.prefix.specs.Tree.{least}
 use Rattle.prefix.specs.Row.{subtree, shortest}
 use Rattle.prefix.specs.Listed.{stated, tree_at, words_for}
-use Rattle.prefix.specs.Subtrees.{Stands}
+use Rattle.prefix.specs.Subtrees.{Stands, Added}
 use Rattle.prefix.proofs.Bytes.{eqb_same, shortest_stands, shortest-length, fewest}
 use Rattle.prefix.proofs.Formed.{formed_shortest}
 use Rattle.prefix.proofs.Prefixes.{small}
@@ -49,13 +49,19 @@ module _ (row : ℕ → ℕ) (deferrable : ℕ → Bool) where
     pub list_fewest : (count : ℕ) → count ≡ least eqb (subtree row deferrable 0 0) → Fewest count states deferrable
     list_fewest count e = fewest list states deferrable count list_shortest (e ∙ sym list_length)
 
--- the node of a prefix in the subtrees of a row
-module _ (row : Row) (p : Prefix) (w : Subtrees) (i : ℕ) (of_row : w.row ≡ row) (stands : Stands w.nodes.items w.candidates.items i (tree_at w.row p)) where
+-- the subtree of a prefix is added to no subtrees of a row
+module _ (row : Row) (p : Prefix) (none w : Subtrees) (i : ℕ) (new : none.row ≡ row) (added : Added none w i (tree_at none.row p)) where
+  of_row : w.row ≡ row
+  of_row = added.row_is ∙ new
+
+  pub root_stands : Stands w.nodes.items w.candidates.items i (tree_at w.row p)
+  root_stands = subst (λ (r : Row). Stands w.nodes.items w.candidates.items i (tree_at r p)) (sym added.row_is) added.stands
+
   pub root_below : i < length w.nodes.items
-  root_below = stands_below w.nodes.items w.candidates.items i (tree_at w.row p) stands
+  root_below = stands_below w.nodes.items w.candidates.items i (tree_at w.row p) root_stands
 
   pub root_least : (n : Node) → slice_get w.nodes.items i ≡ Some n → n.least ≡ least eqb (tree_at row p)
-  root_least n at = (stands_says w.nodes.items w.candidates.items i (tree_at w.row p) n at stands).least_is ∙ ap (λ (r : Row). least eqb (tree_at r p)) of_row
+  root_least n at = (stands_says w.nodes.items w.candidates.items i (tree_at w.row p) n at root_stands).least_is ∙ ap (λ (r : Row). least eqb (tree_at r p)) of_row
 
   pub root_words : (above : Option StateNo) → words_for w.row p above ≡ words_for row p above
   root_words above = ap (λ (r : Row). words_for r p above) of_row

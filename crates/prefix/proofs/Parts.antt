@@ -1,8 +1,6 @@
 -- Parts of a list that grows, and what two parts have in common. Assumes nothing.
 use Rattle.std.proofs.Common.{◌≡◌, ℕ, suc, ◌+◌, ◌-◌, ◌<◌, ◌≤◌, Bool, true, false, cond, eqb, List, [], ◌∷◌, ◌++◌, length, get_or, take, drop, slice_range, sym, refl, ap, ◌∙◌, append_assoc, add-zero, arith, length-append, length-drop}
 use Rattle.std.proofs.lemmas.List.{take_more, get_or-drop, get_or-take, length-take-le, drop-append-le, take-append-le, drop_at, take_all, get_or_append_left}
-use Rattle.std.proofs.lemmas.Bool.Decides.{nat_tests}
-use Rattle.std.specs.List.{list_any}
 use Rattle.prefix.specs.Tree.{has, common}
 use Rattle.prefix.specs.declared.sets.Part.{Part}
 use Rattle.prefix.specs.Parts.{part_of, Inside}
@@ -34,14 +32,6 @@ module _ {X : Type 0} where
   range_last xs ys =
       ap (take (length (xs ++ ys) - length xs)) (drop_at xs ys (length xs) refl) ∙ take_all (length (xs ++ ys) - length xs) ys (omega (arith, length-append xs ys))
 
-eqb_flip : (a b : ℕ) → eqb a b ≡ eqb b a
-eqb_flip a b = grind (arith, nat_tests)
-
--- the test of the code and that of the definitions
-pub has-from_any : (x : ℕ) (ys : List ℕ) → list_any (λ y. eqb y x) ys ≡ has eqb x ys
-has-from_any x [] = refl
-has-from_any x (y ∷ ys) = cc (eqb_flip y x, has-from_any x ys)
-
 pub common≤ : (xs ys : List ℕ) → length (common eqb xs ys) ≤ length xs
 common≤ [] ys = omega arith
 common≤ (x ∷ xs) ys = go (has eqb x ys) (common≤ xs ys)
@@ -72,11 +62,11 @@ module _ (before now more : List ℕ) (a i x : ℕ) (h : a ≤ i) (k : i < lengt
       ∙ ap (λ zs. before ++ zs) (ap (λ z. slice_range before a i ++ z ∷ []) reads ∙ sym (range_more before a i 0 h k)))
 
   pub common_step : (p : Part) → Inside (length before) p → more ≡ common eqb (slice_range before a i) (part_of before p)
-      → (ys : List ℕ) → ys ≡ part_of now p → (b : Bool) → list_any (λ y. eqb y x) ys ≡ b
+      → (ys : List ℕ) → ys ≡ part_of now p → (b : Bool) → has eqb x ys ≡ b
       → now ++ cond b (x ∷ []) [] ≡ before ++ common eqb (slice_range before a (i + 1)) (part_of before p)
   common_step p inside e ys same b test =
       let kept : ys ≡ part_of before p = same ∙ (ap (λ zs. part_of zs p) so_far ∙ range_kept before more p.first p.end inside.0 inside.1) in
-      let has_is : b ≡ has eqb x (part_of before p) = sym test ∙ (has-from_any x ys ∙ ap (λ zs. has eqb x zs) kept) in
+      let has_is : b ≡ has eqb x (part_of before p) = sym test ∙ ap (λ zs. has eqb x zs) kept in
       let xs = slice_range before a i in
       let high = part_of before p in
       let one_more : common eqb (slice_range before a (i + 1)) high ≡ common eqb xs high ++ cond b (x ∷ []) [] =

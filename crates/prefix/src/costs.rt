@@ -3,12 +3,12 @@ ghost use Rattle.std.specs.Prelude.{◌≡◌, ◌+◌, ◌-◌, ◌*◌, ◌^�
 ghost use Rattle.arrayvec.specs.ArrayVec.{array_vec_len};
 ghost use Rattle.prefix.specs.Tree.{leaf, common, either, extra};
 ghost use Rattle.prefix.specs.States.{flags};
-ghost use Rattle.prefix.specs.Listed.{numbered, all_bytes, tree_at};
+ghost use Rattle.prefix.specs.Listed.{numbered, tree_at};
 ghost use Rattle.prefix.specs.Parts.{Inside, part_of};
-ghost use Rattle.prefix.specs.Subtrees.{Says, Joined, Stands, Added, room as states_at_most};
+ghost use Rattle.prefix.specs.Subtrees.{Says, Joined, Added, room as states_at_most};
 
 use crate::sets::{Part, States, append_common, append_part};
-use crate::trees::{Halves, Node, Prefix, Row, Subtrees};
+use crate::trees::{Halves, Node, Prefix, Subtrees};
 
 // Appends the candidates of a subtree from those of its halves: those in common, or all of both where there are none.
 // Answers whether there are none.
@@ -51,18 +51,6 @@ impl Node {
             },
             halves: Some(halves),
         }
-    }
-}
-
-impl<'a> Subtrees<'a> {
-    // The subtrees of a row, and the number of the node for all bytes.
-    pub(crate) fn of(row: Row<'a>) -> (Self, u16)
-        ensures row { result.0.row ≡ row.entry }
-        ensures root { Stands result.0.nodes.items result.0.candidates.items result.1 (tree_at result.0.row all_bytes) }
-    {
-        let mut subtrees = Subtrees::new(row);
-        let root = subtrees.add(Prefix::ALL);
-        (subtrees, root)
     }
 }
 
@@ -110,7 +98,7 @@ impl Subtrees<'_> {
     }
 
     // Adds the subtree of a prefix, and answers the number of its node.
-    fn add(&mut self, prefix: Prefix) -> u16
+    pub(crate) fn add(&mut self, prefix: Prefix) -> u16
         requires inside { (prefix.bits ≤ 8) × (prefix.value < 2 ^ prefix.bits) }
         requires room { (array_vec_len self.old.nodes + 2 * 2 ^ (8 - prefix.bits) ≤ 512) × (array_vec_len self.old.candidates + states_at_most (8 - prefix.bits) ≤ 2304) }
         ensures { Added self.old self.new result (tree_at self.old.row prefix) }

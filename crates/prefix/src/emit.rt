@@ -5,6 +5,7 @@ ghost use Rattle.prefix.specs.Listed.{tree_at, words_for, closing};
 ghost use Rattle.prefix.specs.Parts.{Inside};
 ghost use Rattle.prefix.specs.Subtrees.{Stands, bare_in, covering_in};
 
+use crate::sets::contains;
 use crate::trees::{Node, Prefix, Subtrees};
 use crate::word::PrefixWord;
 use arrayvec::ArrayVec;
@@ -18,7 +19,7 @@ impl Node {
     {
         match above {
             None => self.bare,
-            Some(state) => self.candidates.of(states).contains(&state.0),
+            Some(state) => contains(self.candidates.of(states), state.0),
         }
     }
 

@@ -29,10 +29,11 @@ pub fn shortest_list(
     ensures formed { AllByRecursion Formed result.items }
     ensures bound { array_vec_len result ≤ 256 }
 {
-    let (subtrees, root) = Subtrees::of(Row {
+    let mut subtrees = Subtrees::new(Row {
         successors: row,
         deferrable,
     });
+    let root = subtrees.add(Prefix::ALL);
     let mut words = ArrayVec::new();
     subtrees.emit(root, Prefix::ALL, None, &mut words);
     words
@@ -43,9 +44,10 @@ pub fn shortest_length(row: &[StateNo; 256], deferrable: &[bool; 256]) -> usize
     ensures fewest { Fewest result (successors row.now) (flags deferrable.now) }
     ensures bound { result ≤ 256 }
 {
-    let (subtrees, root) = Subtrees::of(Row {
+    let mut subtrees = Subtrees::new(Row {
         successors: row,
         deferrable,
     });
+    let root = subtrees.add(Prefix::ALL);
     subtrees.node(root).least as usize
 }

@@ -1,5 +1,5 @@
 ghost use Rattle.std.specs.Prelude.{◌≡◌, ◌+◌, ◌-◌, ◌≤◌, ◌++◌, length, nat_eq};
-ghost use Rattle.prefix.specs.Tree.{common};
+ghost use Rattle.prefix.specs.Tree.{has, common};
 ghost use Rattle.prefix.specs.Parts.{Inside, part_of};
 ghost use Rattle.arrayvec.specs.ArrayVec.{array_vec_len};
 
@@ -25,6 +25,18 @@ impl Part {
     }
 }
 
+// Whether `state` is one of the states.
+pub(crate) fn contains(states: &[u16], state: u16) -> bool
+    ensures { result ≡ has nat_eq state states.now }
+{
+    for one in states {
+        if *one == state {
+            return true;
+        }
+    }
+    false
+}
+
 // Appends the states of `low` that are among those of `high` too.
 pub(crate) fn append_common(states: &mut States, low: Part, high: Part)
     requires inside { Inside (array_vec_len states.old) low × Inside (array_vec_len states.old) high }
@@ -34,7 +46,7 @@ pub(crate) fn append_common(states: &mut States, low: Part, high: Part)
     // each is read from the list that it is appended to, so no slice of that list is at hand
     for i in low.first..low.end {
         let state = states[i as usize];
-        if high.of(states).contains(&state) {
+        if contains(high.of(states), state) {
             states.push(state);
         }
     }

@@ -6,7 +6,7 @@ use Rattle.prefix.specs.Words.{Formed, Shortest}
 use Rattle.prefix.specs.States.{flags, successors}
 use Rattle.prefix.specs.Listed.{all_bytes, chosen, numbered, words_for}
 use Rattle.prefix.proofs.Choosing.{chosen_formed, chosen-shortest}
-use Rattle.prefix.proofs.Listing.{list, list≤, root_words, root_room}
+use Rattle.prefix.proofs.Listing.{list, list≤, root_stands, root_words, root_room}
 use Rattle.prefix.proofs.lists.shortest_list.Goals as goal
 
 pub emit-requires : goal.emit-requires
@@ -15,9 +15,9 @@ emit-requires c =
     let marked = flags c.args.deferrable.now in
     record {
       inside = (lit≤ tt, lit< tt);
-      stands = c.of-subtrees.ensures.root;
+      stands = root_stands _ all_bytes c.new-subtrees.result c.add-root.new.self c.add-root.result c.new-subtrees.ensures.row c.add-root.ensures;
       room =
-          root_room _ all_bytes c.of-subtrees.result.0 c.of-subtrees.result.1 c.of-subtrees.ensures.row c.of-subtrees.ensures.root c.new-words.result.items c.new-words.ensures None (list≤ row marked);
+          root_room _ all_bytes c.new-subtrees.result c.add-root.new.self c.add-root.result c.new-subtrees.ensures.row c.add-root.ensures c.new-words.result.items c.new-words.ensures None (list≤ row marked);
     }
 
 pub returns : goal.returns
@@ -27,7 +27,7 @@ returns c =
     let marked = flags c.args.deferrable.now in
     let states = successors c.args.row.now in
     let words : c.emit.new.words.items ≡ list row marked =
-    c.emit.ensures ∙ (ap (λ zs. zs ++ words_for c.of-subtrees.result.0.row all_bytes None) c.new-words.ensures ∙ root_words _ all_bytes c.of-subtrees.result.0 c.of-subtrees.result.1 c.of-subtrees.ensures.row c.of-subtrees.ensures.root None) in
+    c.emit.ensures ∙ (ap (λ zs. zs ++ words_for c.add-root.new.self.row all_bytes None) c.new-words.ensures ∙ root_words _ all_bytes c.new-subtrees.result c.add-root.new.self c.add-root.result c.new-subtrees.ensures.row c.add-root.ensures None) in
     record {
       words = words;
       shortest = subst (λ (ws : List (PrefixWord StateNo)). Shortest ws states marked) (sym words) (chosen-shortest row marked states (λ byte h. refl));
