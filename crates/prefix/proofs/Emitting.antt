@@ -8,10 +8,10 @@ use Rattle.prefix.specs.declared.trees.Halves.{Halves}
 use Rattle.prefix.specs.declared.trees.Prefix.{Prefix}
 use Rattle.prefix.specs.declared.trees.Row.{Row}
 use Rattle.prefix.specs.declared.trees.Subtrees.{Subtrees}
-use Rattle.prefix.specs.Tree.{Tree, here, leaf, node, has, candidates, best, bare, halves, closed}
+use Rattle.prefix.specs.Tree.{Tree, here, leaf, node, has, best, halves, closed}
 use Rattle.prefix.specs.Row.{build, placed}
 use Rattle.prefix.specs.States.{state_no, flags}
-use Rattle.prefix.specs.Listed.{numbered, stated, word_for, low_half, high_half, tree_at, marks, words_for, closing}
+use Rattle.prefix.specs.Listed.{numbered, stated, word_for, low_half, high_half, tree_at, marks, bare_under, cover, words_for, closing}
 use Rattle.prefix.specs.Parts.{Inside}
 use Rattle.prefix.specs.Subtrees.{Says, Stands, bare_in, covering_in}
 use Rattle.prefix.proofs.Halves.{some_candidate}
@@ -19,15 +19,6 @@ use Rattle.prefix.proofs.Parts.{length_range, range_first}
 use Rattle.prefix.proofs.Standing.{same_node, stands_says}
 use Rattle.prefix.proofs.Placed.{map-append, placed-halves, placed-closed}
 use Rattle.prefix.proofs.Prefixes.{subtree-halves}
-
--- whether a shortest list below a word that decides `above`, if there is one, has no word that covers the tree
-abbrev pub bare_under : Option StateNo → Tree ℕ → Bool
-bare_under None t = bare eqb t
-bare_under (Some above) t = has eqb above.0 (candidates eqb t)
-
--- the decision of a word that covers the tree, where such a list has one
-abbrev pub cover : Option StateNo → Tree ℕ → Option StateNo
-cover above t = cond (bare_under above t) None (Some (state_no (best eqb 0 t)))
 
 marks_halved : (above : Option StateNo) (l r : Tree ℕ) → marks above (node l r)
     ≡ cond (bare_under above (node l r)) (halves (marks above l) (marks above r))
@@ -95,10 +86,10 @@ byte_words bits v f d above h = ap (λ ms. map stated (placed 0 bits v ms)) (mar
 byte_tree : (row : Row) (p : Prefix) → p.bits ≡ 8 → tree_at row p ≡ leaf (numbered row.successors.now p.value) (flags row.deferrable.now p.value)
 byte_tree row p e = let k : 8 - p.bits ≡ 0 = omega arith in ap (λ n. build (numbered row.successors.now) (flags row.deferrable.now) n p.value) k
 
-pub words_byte : (row : Row) (p : Prefix) (above : Option StateNo) → p.bits ≡ 8 → (c : Option StateNo) → c ≡ cover above (tree_at row p) → words_for row p above ≡ closing p c
+pub words_byte : (row : Row) (p : Prefix) (above : Option StateNo) → p.bits ≡ 8 → (c : Option StateNo) → c ≡ cover above (leaf (numbered row.successors.now p.value) (flags row.deferrable.now p.value)) → words_for row p above ≡ closing p c
 words_byte row p above e c same =
-    subst (λ (t : Tree ℕ). c ≡ cover above t → map stated (placed 0 p.bits p.value (marks above t)) ≡ closing p c) (sym (byte_tree row p e))
-    (λ same. byte_words p.bits p.value (numbered row.successors.now p.value) (flags row.deferrable.now p.value) above (omega arith) ∙ ap (closing p) (sym same)) same
+    ap (λ (t : Tree ℕ). map stated (placed 0 p.bits p.value (marks above t))) (byte_tree row p e)
+    ∙ (byte_words p.bits p.value (numbered row.successors.now p.value) (flags row.deferrable.now p.value) above (omega arith) ∙ ap (closing p) (sym same))
 
 -- the halves of a node that stands for the tree of a prefix
 pub record Opened (row : Row) (p : Prefix) (nodes : List Node) (states : List ℕ) (h : Halves) : Type 0 where

@@ -1,10 +1,10 @@
 -- The words of a subtree of a row. Assumes nothing.
-use Rattle.std.specs.Prelude.{ℕ, ◌+◌, ◌*◌, Bool, List, [], ◌∷◌, map, Some, None, Option, nat_eq}
+use Rattle.std.specs.Prelude.{ℕ, ◌+◌, ◌*◌, Bool, cond, List, [], ◌∷◌, map, Some, None, Option, nat_eq}
 use Rattle.ternary.specs.declared.words.StateNo.{StateNo}
 use Rattle.prefix.specs.declared.word.PrefixWord.{PrefixWord}
 use Rattle.prefix.specs.declared.trees.Prefix.{Prefix}
 use Rattle.prefix.specs.declared.trees.Row.{Row}
-use Rattle.prefix.specs.Tree.{Tree, Mark, emit_under, emit}
+use Rattle.prefix.specs.Tree.{Tree, Mark, bare, has, candidates, best, emit_under, emit}
 use Rattle.prefix.specs.Row.{subtree, placed, shortest}
 use Rattle.prefix.specs.States.{state_no, successors, flags}
 
@@ -40,6 +40,15 @@ tree_at row p = subtree (numbered row.successors.now) (flags row.deferrable.now)
 abbrev pub marks : Option StateNo → Tree ℕ → List (Mark ℕ)
 marks None t = emit nat_eq 0 t
 marks (Some above) t = emit_under nat_eq 0 above.0 t
+
+-- whether a shortest list below a word that decides `above`, if there is one, has no word that covers the tree
+abbrev pub bare_under : Option StateNo → Tree ℕ → Bool
+bare_under None t = bare nat_eq t
+bare_under (Some above) t = has nat_eq above.0 (candidates nat_eq t)
+
+-- the decision of a word that covers the tree, where such a list has one
+abbrev pub cover : Option StateNo → Tree ℕ → Option StateNo
+cover above t = cond (bare_under above t) None (Some (state_no (best nat_eq 0 t)))
 
 -- the words of such a list for the bytes of a prefix
 abbrev pub words_for : Row → Prefix → Option StateNo → List (PrefixWord StateNo)

@@ -1,12 +1,14 @@
 // The words of a shortest list, from the nodes of a row's subtrees.
 ghost use Rattle.std.specs.Prelude.{◌≡◌, ◌+◌, ◌^◌, ◌<◌, ◌≤◌, ◌++◌, length};
 ghost use Rattle.arrayvec.specs.ArrayVec.{array_vec_len};
-ghost use Rattle.prefix.specs.Listed.{tree_at, words_for, closing};
+ghost use Rattle.prefix.specs.Tree.{leaf};
+ghost use Rattle.prefix.specs.States.{flags};
+ghost use Rattle.prefix.specs.Listed.{numbered, tree_at, words_for, closing, bare_under, cover};
 ghost use Rattle.prefix.specs.Parts.{Inside};
 ghost use Rattle.prefix.specs.Subtrees.{Stands, bare_in, covering_in};
 
 use crate::sets::contains;
-use crate::trees::{Node, Prefix, Subtrees};
+use crate::trees::{Node, Prefix, Row, Subtrees};
 use crate::word::PrefixWord;
 use arrayvec::ArrayVec;
 use ternary::words::StateNo;
@@ -32,6 +34,29 @@ impl Node {
             None
         } else {
             Some(StateNo(states[self.candidates.first as usize]))
+        }
+    }
+}
+
+impl Row<'_> {
+    // Whether a shortest list below `above` has no word for the byte.
+    fn bare_under(self, byte: u8, above: Option<StateNo>) -> bool
+        ensures { result ≡ bare_under above (leaf (numbered self.entry.successors.now byte) (flags self.entry.deferrable.now byte)) }
+    {
+        match above {
+            None => self.deferrable[byte as usize],
+            Some(state) => state == self.successors[byte as usize],
+        }
+    }
+
+    // The decision of a word for the byte, where such a list has one.
+    fn covering(self, byte: u8, above: Option<StateNo>) -> Option<StateNo>
+        ensures { result ≡ cover above (leaf (numbered self.entry.successors.now byte) (flags self.entry.deferrable.now byte)) }
+    {
+        if self.bare_under(byte, above) {
+            None
+        } else {
+            Some(self.successors[byte as usize])
         }
     }
 }
@@ -66,6 +91,10 @@ impl Subtrees<'_> {
         requires room { array_vec_len words.old + length (words_for self.now.row prefix above) ≤ 256 }
         ensures { words.new.items ≡ words.old.items ++ words_for self.now.row prefix above }
     {
+        if prefix.bits == 8 {
+            prefix.close(self.row.covering(prefix.value, above), words);
+            return;
+        }
         let node = self.node(number);
         let covering = node.covering(&self.candidates, above);
         if let Some(halves) = node.halves {

@@ -34,6 +34,16 @@ emit-requires-in-Some t c =
 
 pub close-requires : goal.close-requires
 close-requires t c =
+    let alone = words_byte c.args.self.now.row c.args.prefix c.args.above c.if-prefix-eq8.true _ c.covering.ensures in
+    omega (arith, ap length alone)
+
+pub returns-then-prefix-eq8 : goal.returns-then-prefix-eq8
+returns-then-prefix-eq8 t c =
+    let alone = words_byte c.args.self.now.row c.args.prefix c.args.above c.if-prefix-eq8.true _ c.covering.ensures in
+    c.close.ensures ∙ ap (λ ws. c.args.words.now.items ++ ws) (sym alone)
+
+pub close-requires-2 : goal.close-requires-2
+close-requires-2 t c =
     let w = c.args.self.now in
     let p = c.args.prefix in
     let n = c.node-node.result in
@@ -44,10 +54,7 @@ close-requires t c =
           let low = words_for w.row v.halves.result.0 v.or-below.result in
           let high = words_for w.row v.halves.result.1 v.or-below.result in
           omega (arith, o.long, ap (λ m. length m.items) v.words-is, ap length v.emit.ensures, ap length v.emit-in-Some.ensures, length-append c.args.words.now.items low, length-append v.emit.new.words.items high)
-      | in_default v ↦
-          let byte = byte_alone w.row p w.nodes.items w.candidates.items c.args.number n c.node-node.ensures c.requires.stands c.requires.inside.0 v.in_default.is in
-          let alone = words_byte w.row p c.args.above byte _ is in
-          omega (arith, ap (λ m. length m.items) v.words-is, ap length alone)
+      | in_default v ↦ absurd (c.if-prefix-eq8.false (byte_alone w.row p w.nodes.items w.candidates.items c.args.number n c.node-node.ensures c.requires.stands c.requires.inside.0 v.in_default.is))
     ]
 
 pub returns : goal.returns
@@ -59,10 +66,7 @@ returns t c =
     elim c.match-node.branch [
       | in-Some v ↦
           let o = turn w p c.args.above c.args.number n c.node-node.ensures c.requires.stands v.in-Some.halves v.in-Some.is _ is _ _ v.halves.ensures.0 v.halves.ensures.1 _ v.or-below.ensures in
-          c.close.ensures
+          c.close-2.ensures
           ∙ appended_in_turn c.args.words.now.items v.emit.new.words.items c.match-node.words.items _ _ _ (closing p c.covering-covering.result) o.words v.emit.ensures (ap (λ m. m.items) v.words-is ∙ v.emit-in-Some.ensures)
-      | in_default v ↦
-          let byte = byte_alone w.row p w.nodes.items w.candidates.items c.args.number n c.node-node.ensures c.requires.stands c.requires.inside.0 v.in_default.is in
-          let alone = words_byte w.row p c.args.above byte _ is in
-          c.close.ensures ∙ (ap (λ m. m.items ++ closing p c.covering-covering.result) v.words-is ∙ ap (λ ws. c.args.words.now.items ++ ws) (sym alone))
+      | in_default v ↦ absurd (c.if-prefix-eq8.false (byte_alone w.row p w.nodes.items w.candidates.items c.args.number n c.node-node.ensures c.requires.stands c.requires.inside.0 v.in_default.is))
     ]
