@@ -98,18 +98,15 @@ impl Subtrees<'_> {
     }
 
     // Adds the subtree of a prefix, and answers the number of its node.
+    #[cycle(add)]
     pub(crate) fn add(&mut self, prefix: Prefix) -> u16
-        requires inside { (prefix.bits ≤ 8) × (prefix.value < 2 ^ prefix.bits) }
+        requires inside { (prefix.bits < 8) × (prefix.value < 2 ^ prefix.bits) }
         requires room { (array_vec_len self.old.nodes + 2 * 2 ^ (8 - prefix.bits) ≤ 512) × (array_vec_len self.old.candidates + states_at_most (8 - prefix.bits) ≤ 2304) }
         ensures { Added self.old self.new result (tree_at self.old.row prefix) }
     {
-        if prefix.bits == 8 {
-            let node = self.byte(prefix.value);
-            return self.push(node);
-        }
         let (lower, upper) = prefix.halves();
-        let low = self.add(lower);
-        let high = self.add(upper);
+        let low = self.add_half(lower);
+        let high = self.add_half(upper);
         let halves = Halves { low, high };
         let node = Node::of_halves(
             self.node(low),
@@ -118,5 +115,19 @@ impl Subtrees<'_> {
             &mut self.candidates,
         );
         self.push(node)
+    }
+
+    // The same for a half of a prefix, which may be one byte.
+    #[cycle(add)]
+    fn add_half(&mut self, half: Prefix) -> u16
+        requires inside { (half.bits ≤ 8) × (half.value < 2 ^ half.bits) }
+        requires room { (array_vec_len self.old.nodes + 2 * 2 ^ (8 - half.bits) ≤ 512) × (array_vec_len self.old.candidates + states_at_most (8 - half.bits) ≤ 2304) }
+        ensures { Added self.old self.new result (tree_at self.old.row half) }
+    {
+        if half.bits == 8 {
+            let node = self.byte(half.value);
+            return self.push(node);
+        }
+        self.add(half)
     }
 }

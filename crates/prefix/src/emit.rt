@@ -79,6 +79,7 @@ impl Prefix {
 
 impl Subtrees<'_> {
     // Appends a shortest list for the bytes of a prefix, below a word that decides `above` where there is one.
+    #[cycle(emit)]
     pub(crate) fn emit(
         &self,
         number: u16,
@@ -86,23 +87,40 @@ impl Subtrees<'_> {
         above: Option<StateNo>,
         words: &mut ArrayVec<PrefixWord<StateNo>, 256>,
     )
-        requires inside { (prefix.bits ≤ 8) × (prefix.value < 2 ^ prefix.bits) }
+        requires inside { (prefix.bits < 8) × (prefix.value < 2 ^ prefix.bits) }
         requires stands { Stands self.now.nodes.items self.now.candidates.items number (tree_at self.now.row prefix) }
         requires room { array_vec_len words.old + length (words_for self.now.row prefix above) ≤ 256 }
         ensures { words.new.items ≡ words.old.items ++ words_for self.now.row prefix above }
     {
-        if prefix.bits == 8 {
-            prefix.close(self.row.covering(prefix.value, above), words);
-            return;
-        }
         let node = self.node(number);
         let covering = node.covering(&self.candidates, above);
         if let Some(halves) = node.halves {
             let below = covering.or(above);
             let (low, high) = prefix.halves();
-            self.emit(halves.low, low, below, words);
-            self.emit(halves.high, high, below, words);
+            self.emit_half(halves.low, low, below, words);
+            self.emit_half(halves.high, high, below, words);
         }
         prefix.close(covering, words);
+    }
+
+    // The same for a half of a prefix, which may be one byte.
+    #[cycle(emit)]
+    fn emit_half(
+        &self,
+        number: u16,
+        half: Prefix,
+        above: Option<StateNo>,
+        words: &mut ArrayVec<PrefixWord<StateNo>, 256>,
+    )
+        requires inside { (half.bits ≤ 8) × (half.value < 2 ^ half.bits) }
+        requires stands { Stands self.now.nodes.items self.now.candidates.items number (tree_at self.now.row half) }
+        requires room { array_vec_len words.old + length (words_for self.now.row half above) ≤ 256 }
+        ensures { words.new.items ≡ words.old.items ++ words_for self.now.row half above }
+    {
+        if half.bits == 8 {
+            half.close(self.row.covering(half.value, above), words);
+            return;
+        }
+        self.emit(number, half, above, words);
     }
 }
