@@ -3,7 +3,7 @@ use Rattle.std.proofs.Common.{◌≡◌, ℕ, ◌<◌, ◌≤◌, List, length, 
 use Rattle.std.proofs.lemmas.Bool.{cond-true, cond-false, le-leb, lt-leb}
 use Rattle.std.specs.List.{range_with_len}
 use Rattle.std.proofs.lemmas.List.FromFn.{length-map-range_with_len, get_or-map-range_with_len}
-use Rattle.std.proofs.lemmas.Option.{get_or_from_slice_get}
+use Rattle.std.proofs.lemmas.Option.{get_or_from_slice_get, slice_get_past}
 use Rattle.automaton.specs.Runs.{Dfa}
 use Rattle.forest.specs.Deferment.{joined_forest, loose_forest, forest_of}
 use Rattle.forest.specs.Forest.{Forest, code, mask}
@@ -11,7 +11,7 @@ use Rattle.forest.specs.declared.placing.Place.{Place}
 use Rattle.forest.specs.Placing.{forest_at, AllInPlace}
 use Rattle.forest.specs.declared.plan.Placement.{Placement}
 use Rattle.forest.specs.declared.plan.Plan.{Plan}
-use Rattle.forest.specs.Plan.{Planned, PlanOf, states_of, placement_of, state_named}
+use Rattle.forest.specs.Plan.{Planned, PlanOf, states_of, placement_of, placement_in, state_named}
 use Rattle.forest.proofs.Agree.{place_parent, place_depth, places_width, places_code, places_mask}
 
 -- two forests give a state one place
@@ -48,8 +48,20 @@ module _ (a : Dfa) (places : List Place) (all : AllInPlace a places) where
 
 -- what the plan of an automaton hands out
 module _ (a : Dfa) (p : Plan) (of : PlanOf a p) where
+  -- it has as many states as the automaton
+  pub states_of_lem : states_of p ≡ a.states
+  states_of_lem = of.0
+
   pub width_of : p.width ≡ (forest_of a).width
   width_of = of.1.wide
+
+  -- each state has the place that the automaton's forest gives it
+  pub placement_of_lem : (s : ℕ) → s < a.states → placement_in p s ≡ Some (placement_of (forest_of a) s)
+  placement_of_lem s h = of.1.placed s (omega (arith, of.0))
+
+  -- no other number has a place
+  pub placement_none : (s : ℕ) → a.states ≤ s → placement_in p s ≡ None
+  placement_none s h = slice_get_past p.places.items s (omega (arith, of.0))
 
   -- the places of its states are those that the forest gives, in state order
   pub placements_are : p.places.items ≡ map (placement_of (forest_of a)) (range_with_len 0 a.states)

@@ -33,7 +33,8 @@ pub struct Plan {
 impl Plan {
     // How many states the automaton has.
     pub fn states(&self) -> u16
-        ensures { result ≡ states_of self.now }
+        ensures value { result ≡ states_of self.now }
+        ensures few { result ≤ 512 }
     {
         self.places.len() as u16
     }
