@@ -1,8 +1,8 @@
 -- Parents and depths that agree below n give the same forest there. Assumes nothing.
 use Rattle.std.proofs.Common.{◌≡◌, ℕ, zero, suc, ◌+◌, ◌-◌, ◌*◌, ◌^◌, ◌<◌, ◌≤◌, cond, List, length, Some, None, Option, sym, refl, ap, ◌∙◌, subst, ap₂, inl, inr, arith}
-use Rattle.forest.specs.Forest.{code, mask}
+use Rattle.forest.specs.Forest.{Forest, code, mask}
 use Rattle.forest.specs.Codes.{Parents, same, deferring, bits_for, child_bits, root_bits, number_of, prefix_of, len_of, span_of, width_of, numbered, Rooted}
-use Rattle.forest.specs.Deferment.{trees_of, depth_of, parent_of, joined_forest}
+use Rattle.forest.specs.Deferment.{trees_of, depth_of, parent_of, joined_forest, loose_forest}
 use Rattle.automaton.specs.Runs.{Dfa}
 use Rattle.forest.specs.declared.placing.Place.{Place}
 use Rattle.forest.specs.Plan.{state_named}
@@ -103,6 +103,52 @@ module _ (n : ℕ) (parent : Parents) (depth : ℕ → ℕ) (r : Rooted n parent
         ap (λ (k : ℕ). mask (numbered k q e) s) size
         ∙ ap₂ (λ (x y : ℕ). 2 ^ x - 2 ^ (x - y)) width_in (len_in s hs)
 
+-- places hold the parent and the depth of each of n states
+pub record Holding (n : ℕ) (parent : Parents) (depth : ℕ → ℕ) (places : List Place) : Type 0 where
+  pub size : length places ≡ n
+  pub depth_is : (s : ℕ) → s < n → depth_at places s ≡ depth s
+  pub parent_is : (s : ℕ) → s < n → parent_at places s ≡ parent s
+
+-- they hold those of an automaton's joined states
+abbrev pub Found : Dfa → List Place → Type 0
+Found a = Holding a.states (parent_of a (trees_of a)) (depth_of a (trees_of a))
+
+-- they hold that every state is a root
+abbrev pub Loose : Dfa → List Place → Type 0
+Loose a = Holding a.states (λ s. None) (λ s. 0)
+
+-- places describe a forest: its states, which are rooted, its width, codes and masks
+pub record Same (f : Forest) (places : List Place) : Type 0 where
+  pub size : length places ≡ f.states
+  pub rooted : Rooted (length places) (parent_at places) (depth_at places)
+  pub width : (forest_at places).width ≡ f.width
+  pub codes : (s : ℕ) → s < f.states → code (forest_at places) s ≡ code f s
+  pub masks : (s : ℕ) → s < f.states → mask (forest_at places) s ≡ mask f s
+
+same_as : (n : ℕ) (parent : Parents) (depth : ℕ → ℕ) (places : List Place) → Rooted n parent depth → Holding n parent depth places → Same (numbered n parent depth) places
+same_as n parent depth places r held = record {
+  size = held.size;
+  rooted = rooted_as n parent depth r (parent_at places) (depth_at places) held.parent_is held.depth_is (length places) held.size;
+  width = width_as n parent depth r (parent_at places) (depth_at places) held.parent_is held.depth_is (length places) held.size;
+  codes = code_as n parent depth r (parent_at places) (depth_at places) held.parent_is held.depth_is (length places) held.size;
+  masks = mask_as n parent depth r (parent_at places) (depth_at places) held.parent_is held.depth_is (length places) held.size;
+}
+
+loose_rooted : (n : ℕ) → Rooted n (λ s. None) (λ s. 0)
+loose_rooted n = record {
+  roots = λ s hs e. refl;
+  inside = λ s p hs e. absurd (let z : ◌≡◌ {A = ℕ} 0 1 = cc in omega arith);
+  falls = λ s p hs e. absurd (let z : ◌≡◌ {A = ℕ} 0 1 = cc in omega arith);
+  shallow = λ s hs. omega arith;
+}
+
+-- places of the joined states describe their forest, and so do places of states that are all roots
+pub places_stand : (a : Dfa) (places : List Place) → (Found a places → Same (joined_forest a) places) × (Loose a places → Same (loose_forest a) places)
+places_stand a places = (
+  λ held. same_as a.states (parent_of a (trees_of a)) (depth_of a (trees_of a)) places (rooted a (trees_of a) (kept a)) held,
+  λ held. same_as a.states (λ s. None) (λ s. 0) places (loose_rooted a.states) held,
+)
+
 -- the number of a state that is named by a number
 unnamed : (o : Option ℕ) → named (state_named o) ≡ o
 unnamed None = refl
@@ -110,29 +156,23 @@ unnamed (Some s) = refl
 
 -- places of all states of an automaton
 module _ (a : Dfa) (places : List Place) (all : AllInPlace a places) where
-  abbrev parent : Parents
-  parent = parent_of a (trees_of a)
+  pub place_parent : (s : ℕ) → s < a.states → parent_at places s ≡ parent_of a (trees_of a) s
+  place_parent s hs = ap (λ (p : Place). named p.parent) (all.1 s hs) ∙ unnamed (parent_of a (trees_of a) s)
 
-  abbrev depth : ℕ → ℕ
-  depth = depth_of a (trees_of a)
-
-  pub place_parent : (s : ℕ) → s < a.states → parent_at places s ≡ parent s
-  place_parent s hs = ap (λ (p : Place). named p.parent) (all.1 s hs) ∙ unnamed (parent s)
-
-  pub place_depth : (s : ℕ) → s < a.states → depth_at places s ≡ depth s
+  pub place_depth : (s : ℕ) → s < a.states → depth_at places s ≡ depth_of a (trees_of a) s
   place_depth s hs = ap (λ (p : Place). p.depth) (all.1 s hs)
 
-  abbrev r : Rooted a.states parent depth
-  r = rooted a (trees_of a) (kept a)
+  places_same : Same (joined_forest a) places
+  places_same = (places_stand a places).0 (record { size = all.0; depth_is = place_depth; parent_is = place_parent })
 
   pub places_rooted : Rooted (length places) (parent_at places) (depth_at places)
-  places_rooted = rooted_as a.states parent depth r (parent_at places) (depth_at places) place_parent place_depth (length places) all.0
+  places_rooted = places_same.rooted
 
   pub places_width : (forest_at places).width ≡ (joined_forest a).width
-  places_width = width_as a.states parent depth r (parent_at places) (depth_at places) place_parent place_depth (length places) all.0
+  places_width = places_same.width
 
   pub places_code : (s : ℕ) → s < a.states → code (forest_at places) s ≡ code (joined_forest a) s
-  places_code = code_as a.states parent depth r (parent_at places) (depth_at places) place_parent place_depth (length places) all.0
+  places_code = places_same.codes
 
   pub places_mask : (s : ℕ) → s < a.states → mask (forest_at places) s ≡ mask (joined_forest a) s
-  places_mask = mask_as a.states parent depth r (parent_at places) (depth_at places) place_parent place_depth (length places) all.0
+  places_mask = places_same.masks
