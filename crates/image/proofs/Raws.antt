@@ -1,7 +1,8 @@
 -- An entry and its fields: each makes the other where no value has a bit under a star.
-use Rattle.std.proofs.Common.{◌≡◌, ℕ, ◌+◌, ◌<◌, false, ◌&&◌, ltb, List, [], ◌∷◌, ◌++◌, map, is_some, None, refl, ap}
+use Rattle.std.proofs.Common.{◌≡◌, ℕ, ◌+◌, ◌<◌, false, ◌&&◌, ltb, List, [], ◌∷◌, ◌++◌, map, length, get_or, is_some, None, sym, refl, ap, ◌∙◌}
 use lib.Bits.{bit_and}
 use Rattle.std.specs.List.{flat_map, AllByRecursion}
+use Rattle.std.proofs.lemmas.List.{get_or-map}
 use Rattle.std.proofs.lemmas.Bool.{and_parts, eqb-true, ltb-true}
 use Rattle.ternary.specs.declared.entry.Entry.{Entry}
 use Rattle.ternary.proofs.EntryLaws.{entry-same}
@@ -61,3 +62,7 @@ raws_again limit (f ∷ fs) all = λ i. raw_again limit f all.0 i ∷ raws_again
 pub entry_bytes_lem : (es : List Entry) → flat_map entry_bytes es ≡ flat_map raw_bytes (map raw_of es)
 entry_bytes_lem [] = refl
 entry_bytes_lem (e ∷ es) = ap (λ (l : List ℕ). entry_bytes e ++ l) (entry_bytes_lem es)
+
+-- the fields of the entry at a place
+pub raw_at_lem : (es : List Entry) (i : ℕ) (e : Entry) → i < length es → e ≡ get_or es i e → raw_of e ≡ get_or (map raw_of es) i (raw_of e)
+raw_at_lem es i e lt is = ap raw_of is ∙ sym (get_or-map raw_of es i e (raw_of e) lt)

@@ -1,5 +1,6 @@
 -- The summary of a file that was read.
-use Rattle.std.proofs.Common.{◌≡◌, ℕ, Bool, true, false, cond, leb, List, length, Ok, Err, Result, refl, ap, ◌∙◌, arith}
+use Rattle.std.proofs.Common.{◌≡◌, ℕ, ◌≤◌, Bool, true, false, cond, leb, List, length, Ok, Err, Result, sym, refl, ap, ◌∙◌, arith}
+use Rattle.std.proofs.lemmas.Bool.{cond-true, le-leb}
 use Rattle.ternary.specs.declared.refusal.Refusal.{Refusal}
 use Rattle.ternary.specs.declared.refusal.Refusal.TheVariants.{OutputTooShort}
 use Rattle.automaton.specs.declared.words.Header.{Header}
@@ -22,6 +23,10 @@ summary_of_small false file r e = refl
 
 pub small_summary : (file : List ℕ) → summary_of file (small_answer file) ≡ summarized file
 small_summary file = summary_of_small (leb (length file) 65536) file (read_answer file 16384 64) OutputTooShort
+
+-- a file that is not too long is summarized as reading answers
+pub summarized_read : (file : List ℕ) → length file ≤ 65536 → (r : Result Header Refusal) → r ≡ read_answer file 16384 64 → summarized file ≡ summary_of file r
+summarized_read file short r e = cond-true (leb (length file) 65536) _ _ (le-leb (length file) 65536 short) ∙ ap (summary_of file) (sym e)
 
 module _ (file : List ℕ) (h : Header) (is : Ok h ≡ small_answer file) where
   pub read_small : Ok h ≡ read_answer file 16384 64
