@@ -6,6 +6,9 @@ ghost use Rattle.ternary.specs.Match.{Agrees, Matches, decision, matches, first,
 use crate::entry::Entry;
 use crate::words::StateCode;
 
+// So many entries are tried before the search for the others is called.
+const HEAD: usize = 4;
+
 impl Entry {
     // Whether all compared bits of the code and of the byte agree.
     pub fn matches(&self, code: StateCode, byte: u8) -> bool
@@ -33,10 +36,18 @@ pub fn first_match(entries: &[Entry], code: StateCode, byte: u8) -> Option<(Stat
     find(entries, code, byte).map(|e| (e.next, e.class))
 }
 
-// The first entry that matches. A search is what feeds spend their time on: four entries are tried in a turn, and it is
-// compiled once, which takes a third of the time off and does not change with where its callers lie.
-#[inline(never)]
+// The first entry that matches. Those at the head are tried where the search is called, so that an early match costs no call.
 fn find(entries: &[Entry], code: StateCode, byte: u8) -> Option<&Entry>
+    ensures { option_copied result ≡ find (λ e. matches e code.0 byte) entries.now }
+{
+    let (head, rest) = entries.split_at(entries.len().min(HEAD));
+    find_singly(head, code, byte).or_else(|| find_by_fours(rest, code, byte))
+}
+
+// The first entry that matches, where there may be many. A search is what feeds spend their time on: four entries are tried
+// in a turn, and it is compiled once, which takes a third of the time off and does not change with where its callers lie.
+#[inline(never)]
+fn find_by_fours(entries: &[Entry], code: StateCode, byte: u8) -> Option<&Entry>
     ensures { option_copied result ≡ find (λ e. matches e code.0 byte) entries.now }
 {
     let mut rest = entries;

@@ -1,7 +1,7 @@
 use Rattle.std.proofs.Common.{◌≡◌, length}
 use Rattle.std.specs.List.{find}
 use Rattle.ternary.specs.Match.{matches}
-use Rattle.ternary.proofs.entry.matching.find.Given as goal
+use Rattle.ternary.proofs.entry.matching.find_by_fours.Given as goal
 
 -- none of the entries before the rest matches
 abbrev pub invariant-loop-rest : goal.invariant-loop-rest
