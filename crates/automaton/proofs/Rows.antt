@@ -1,9 +1,16 @@
 -- The row of a state as an array. Assumes nothing.
-use Rattle.std.proofs.Common.{◌≡◌, ℕ, ◌+◌, ◌*◌, ◌-◌, ◌<◌, ◌≤◌, None, Some, Option, MatchOption, List, length, replicate, get_or, take, drop, slice_range, sym, ap, ◌∙◌, arith, length-take, length-drop}
-use Rattle.std.proofs.lemmas.List.{get_or-drop, get_or-take, get_or-replicate, get_or_past, take_all}
+use Rattle.std.proofs.Common.{◌≡◌, ℕ, ◌+◌, ◌*◌, ◌-◌, ◌<◌, ◌≤◌, None, Some, Option, MatchOption, List, [], length, map, replicate, get_or, take, drop, slice_range, sym, ap, ◌∙◌, arith, length-take, length-drop}
+use Rattle.std.proofs.lemmas.List.{length-replicate, get_or-drop, get_or-take, get_or-replicate, get_or_past, take_all}
 use Rattle.std.specs.Option.{unwrap_or}
 use Rattle.std.specs.Array.{IsFirstChunk}
+use Rattle.std.specs.List.{range_with_len}
+use Rattle.std.proofs.lemmas.List.FromFn.{fill_by_all}
+use Rattle.automaton.specs.File.{next_by}
 use Rattle.ternary.specs.declared.words.StateNo.{StateNo}
+
+-- the row of a state that goes to one successor on every byte
+pub one_successor : (next : StateNo) → replicate 256 next ≡ map (next_by [] next) (range_with_len 0 256)
+one_successor next = fill_by_all (next_by [] next) (replicate 256 next) 256 next (length-replicate 256 next) (λ byte h. get_or-replicate 256 byte next next h)
 
 -- the row of the state s among all successors, of which there are 256 for each state
 module _ (all row : List StateNo) (states s : ℕ) (count : length all ≡ 256 * states) (is : row ≡ slice_range all (256 * s) (256 * s + 256)) where

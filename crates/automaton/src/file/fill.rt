@@ -21,7 +21,7 @@ pub(crate) fn fill(records: &[u8], successors: &mut [StateNo], classes: &mut [u8
             return unreachable();
         };
         let at = 256 * state;
-        successors[at..at + 256].copy_from_slice(&record.row());
+        record.write(&mut successors[at..at + 256]);
         classes[state] = record.class();
         rest = &rest[record.size()..];
     }

@@ -47,8 +47,20 @@ impl Record<'_> {
         self.class
     }
 
+    // Writes the successors of the state. Where no range decides anything, all bytes go to the default.
+    pub(crate) fn write(&self, row: &mut [StateNo])
+        requires { length row.old ≡ 256 }
+        ensures { row.new ≡ row_of (said self.now) }
+    {
+        if self.ranges.is_empty() {
+            row.fill(self.default);
+        } else {
+            row.copy_from_slice(&self.row());
+        }
+    }
+
     // The successors of the state.
-    pub(crate) fn row(&self) -> [StateNo; 256]
+    fn row(&self) -> [StateNo; 256]
         ensures { result ≡ row_of (said self.now) }
     {
         array::from_fn(|byte| self.next(byte as u8))
