@@ -1,5 +1,5 @@
 -- What the steps of a check answer, of codes and entries in memory. Assumes nothing.
-use Rattle.std.specs.Prelude.{ℕ, ◌<◌, Bool, ◌==◌, bit_and, List, drop, Some, None, Option, slice_index_or}
+use Rattle.std.specs.Prelude.{ℕ, ◌<◌, Bool, ◌==◌, bit_and, List, [], ◌∷◌, cond, drop, Some, None, Option, slice_index_or}
 use Rattle.ternary.specs.declared.entry.Entry.{Entry}
 use Rattle.ternary.specs.declared.words.StateCode.{StateCode}
 use Rattle.ternary.specs.declared.words.StateNo.{StateNo}
@@ -30,3 +30,8 @@ unread list items = drop items.next (list (parts_of items.image))
 -- an entry matches a code, whatever the byte
 abbrev pub accepts : ℕ → Entry → Bool
 accepts code e = bit_and code e.code_mask == e.code_value
+
+-- the entries that decide for a code: those that match it, up to the first that matches it with every byte
+abbrev pub deciding : ℕ → List Entry → List Entry
+deciding code [] = []
+deciding code (e ∷ es) = cond (accepts code e) (e ∷ cond (e.byte_mask == 0) [] (deciding code es)) (deciding code es)

@@ -1,9 +1,9 @@
-ghost use Rattle.std.specs.Prelude.{◌≡◌, ◌≤◌, drop, filter, length, is_ok, Decides};
+ghost use Rattle.std.specs.Prelude.{◌≡◌, ◌≤◌, drop, length, is_ok, Decides};
 ghost use Rattle.automaton.specs.Limits.{handed};
 ghost use Rattle.automaton.specs.Sound.{meant};
 ghost use Rattle.image.specs.Calls.{parts_of};
 ghost use Rattle.table.specs.Acceptance.{Acceptable, Checked, OnlyAnswer, Right};
-ghost use Rattle.table.specs.Steps.{accepts, listed, unread, WrongByte, WrongPlace};
+ghost use Rattle.table.specs.Steps.{accepts, deciding, listed, unread, WrongByte, WrongPlace};
 
 use arrayvec::ArrayVec;
 use automaton::sound::SoundAutomaton;
@@ -108,14 +108,18 @@ impl Table<'_> {
         alone.first_wrong_byte(state)
     }
 
-    // Takes the entries that match a code, in order, whatever their byte, in place of those that were taken before.
+    // Takes the entries that match a code, in order, in place of those that were taken before: up to the first that matches it
+    // with every byte, since none behind that decides anything for the code.
     fn take_for(&self, code: StateCode, own: &mut Own)
-        ensures { own.new.items ≡ filter (accepts code.0) self.now.entries.now }
+        ensures { own.new.items ≡ deciding code.0 self.now.entries.now }
     {
         own.clear();
         for entry in self.entries {
             if accepts(*entry, code) {
                 own.push(*entry);
+                if entry.byte_mask() == 0 {
+                    return;
+                }
             }
         }
     }
@@ -124,21 +128,24 @@ impl Table<'_> {
     fn first_wrong_byte(&self, state: StateNo) -> Option<u8>
         ensures { WrongByte (meant self.now.automaton) (listed self.now.codes.now) self.now.entries.now state.0 result }
     {
+        let code = self.code(state);
         // The loop keeps the contract, a relation, turn by turn.
         for byte in 0..=255 {
-            if !self.decides(state, byte) {
+            if !self.decides(state, code, byte) {
                 return Some(byte);
             }
         }
         None
     }
 
-    // Whether the first entry that matches a state's code and a byte holds the successor's code and class.
-    fn decides(&self, state: StateNo, byte: u8) -> bool
+    // Whether the first entry that matches a state's code and a byte holds the successor's code and class. The code is asked
+    // for once for all bytes.
+    fn decides(&self, state: StateNo, own: StateCode, byte: u8) -> bool
+        requires { own ≡ listed self.now.codes.now state.0 }
         ensures { Decides result (Right (meant self.now.automaton) (listed self.now.codes.now) self.now.entries.now state.0 byte) }
     {
         let next = self.automaton.next(state, byte);
-        match first_match(self.entries, self.code(state), byte) {
+        match first_match(self.entries, own, byte) {
             Some((code, class)) => code == self.code(next) && class == self.automaton.class(next),
             None => false,
         }

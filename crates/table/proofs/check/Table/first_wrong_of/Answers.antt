@@ -1,8 +1,8 @@
-use Rattle.std.proofs.Common.{◌≡◌, List, filter, ap, ◌∙◌, subst}
+use Rattle.std.proofs.Common.{◌≡◌, List, ap, ◌∙◌, subst}
 use Rattle.ternary.specs.declared.entry.Entry.{Entry}
 use Rattle.ternary.specs.declared.words.StateCode.{StateCode}
 use Rattle.automaton.specs.Sound.{meant}
-use Rattle.table.specs.Steps.{accepts, listed, WrongByte}
+use Rattle.table.specs.Steps.{deciding, listed, WrongByte}
 use Rattle.table.proofs.Sorted.{wrong_byte}
 use Rattle.table.proofs.check.Table.first_wrong_of.Goals as goal
 
@@ -13,6 +13,6 @@ returns c =
     let es = c.args.self.now.entries.now in
     let s = c.args.state.0 in
     let found = c.first_wrong_byte.result in
-    let own : c.as_slice.result.now ≡ filter (accepts (code s).0) es =
-    c.as_slice.ensures.value ∙ (c.take_for.ensures ∙ ap (λ (x : StateCode). filter (accepts x.0) es) c.code.ensures) in
+    let own : c.as_slice.result.now ≡ deciding (code s).0 es =
+    c.as_slice.ensures.value ∙ (c.take_for.ensures ∙ ap (λ (x : StateCode). deciding x.0 es) c.code.ensures) in
     wrong_byte a code es s found (subst (λ (l : List Entry). WrongByte a code l s found) own c.first_wrong_byte.ensures)
