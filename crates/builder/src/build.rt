@@ -5,6 +5,7 @@ ghost use Rattle.table.specs.Acceptance.{Acceptable};
 ghost use Rattle.image.specs.Format.{decode};
 ghost use Rattle.builder.specs.Build.{BuildAnswer, HeaviestImage, OverShortest, RoomSuffices, ShortestImage, SoleAnswer};
 
+use crate::gathered::Gathered;
 use crate::planned::Planned;
 use automaton::words::Automaton;
 use image::writer::pack;
@@ -23,7 +24,8 @@ pub fn build(automaton: Automaton<'_>, work: &mut [u32], out: &mut [u8]) -> Resu
         IfOk result (λ size. HeaviestImage a (decode (take size out.new))) }
 {
     let planned = Planned::of(automaton, work)?;
-    let entries = planned.entries()?;
+    let mut entries = Gathered::new();
+    planned.gather(&mut entries)?;
     let codes = planned.codes();
     pack(
         planned.plan.width(),

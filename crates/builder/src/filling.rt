@@ -1,5 +1,5 @@
 // Gathering the entries of a table: deeper states first, and states of equal depth by lower number.
-ghost use Rattle.std.specs.Prelude.{◌≡◌, ◌<◌, map, length, MatchResult};
+ghost use Rattle.std.specs.Prelude.{◌≡◌, ◌<◌, [], map, length, MatchResult};
 ghost use Rattle.ternary.specs.declared.refusal.Refusal.TheVariants.{TooManyEntries};
 ghost use Rattle.automaton.specs.Sound.{meant};
 ghost use Rattle.builder.specs.Gathering.{Gathers, lists_of, level_over};
@@ -35,16 +35,16 @@ impl Planned<'_> {
         Ok(())
     }
 
-    // The entries of all states, deeper ones first.
-    pub(crate) fn entries(&self) -> Result<Gathered, Refusal>
-        ensures { MatchResult result (λ gathered. gathered.items ≡ table_over (meant self.now.automaton) (lists_of (meant self.now.automaton))) (λ e. (e ≡ TooManyEntries) × (4096 < length (table_over (meant self.now.automaton) (lists_of (meant self.now.automaton))))) }
+    // Gathers the entries of all states, deeper ones first, in a vector that the caller holds: it is too large to hand out.
+    pub(crate) fn gather(&self, gathered: &mut Gathered) -> Result<(), Refusal>
+        requires { gathered.old.items ≡ [] }
+        ensures { MatchResult result (λ _. gathered.new.items ≡ table_over (meant self.now.automaton) (lists_of (meant self.now.automaton))) (λ e. (e ≡ TooManyEntries) × (4096 < length (table_over (meant self.now.automaton) (lists_of (meant self.now.automaton))))) }
     {
         let height = self.height();
-        let mut gathered = Gathered::new();
         // A depth has no slice behind it.
         for depth in (0..height).rev() {
-            self.gather_level(depth, &mut gathered)?;
+            self.gather_level(depth, gathered)?;
         }
-        Ok(gathered)
+        Ok(())
     }
 }

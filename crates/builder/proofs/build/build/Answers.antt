@@ -36,24 +36,24 @@ returns-in_err-planned c =
 same : (s a : Automaton) → s ≡ a → (work work' out out' : List ℕ) (r : Result ℕ Refusal) → BuildAnswer (handed s) work work' out out' r → BuildAnswer (handed a) work work' out out' r
 same s a e work work' out out' r answer = subst (λ x. BuildAnswer (handed x) work work' out out' r) e answer
 
-pub returns-in_err-entries : goal.returns-in_err-entries
-returns-in_err-entries c =
+pub returns-in_err-gather : goal.returns-in_err-gather
+returns-in_err-gather c =
     let a = handed c.args.automaton in
     let p = c.in_ok-planned.planned in
     let told = c.in_ok-planned.ensures in
     let s = handed p.automaton.automaton in
     let enough = subst (λ (x : Automaton). (handed x).states * (handed x).states + 8192 ≤ length c.args.work.now) (sym told.0) told.1 in
-    let r = c.from_residual-in_err-entries.result in
+    let r = c.from_residual-in_err-gather.result in
     let answer = same p.automaton.automaton c.args.automaton told.0 c.args.work.now c.of.new.work c.args.out.now c.args.out.now r
-    (gather_declined s c.args.work.now c.of.new.work c.args.out.now r _ c.from_residual-in_err-entries.ensures.1 p.automaton.within enough c.in_err-entries.ensures) in
+    (gather_declined s c.args.work.now c.of.new.work c.args.out.now r _ c.from_residual-in_err-gather.ensures.1 p.automaton.within enough c.in_err-gather.ensures) in
     record {
       answer = answer;
       only = sole_answer a c.args.work.now c.of.new.work c.args.out.now c.args.out.now r answer;
       suffices = room_suffices a c.args.work.now c.of.new.work c.args.out.now c.args.out.now r answer;
-      parts = IfOk-from_err r _ c.from_residual-in_err-entries.ensures.0;
-      accepted = IfOk-from_err r _ c.from_residual-in_err-entries.ensures.0;
-      shortest = IfOk-from_err r _ c.from_residual-in_err-entries.ensures.0;
-      heaviest = IfOk-from_err r _ c.from_residual-in_err-entries.ensures.0;
+      parts = IfOk-from_err r _ c.from_residual-in_err-gather.ensures.0;
+      accepted = IfOk-from_err r _ c.from_residual-in_err-gather.ensures.0;
+      shortest = IfOk-from_err r _ c.from_residual-in_err-gather.ensures.0;
+      heaviest = IfOk-from_err r _ c.from_residual-in_err-gather.ensures.0;
     }
 
 pub returns : goal.returns
@@ -64,7 +64,7 @@ returns c =
     let s = handed p.automaton.automaton in
     let enough = subst (λ (x : Automaton). (handed x).states * (handed x).states + 8192 ≤ length c.args.work.now) (sym told.0) told.1 in
     let lists = lists_of (dfa s) in
-    let entries : c.as_slice-2.result.now ≡ table_over (dfa s) lists = c.as_slice-2.ensures.value ∙ c.in_ok-entries.ensures in
+    let entries : c.as_slice-2.result.now ≡ table_over (dfa s) lists = c.as_slice-2.ensures.value ∙ c.in_ok-gather.ensures in
     let few : length (table_over (dfa s) lists) ≤ 4096 = omega (arith, ap length entries, c.as_slice-2.ensures.fits) in
     let codes : c.as_slice.result.now ≡ map (code_of (dfa s)) (range_with_len 0 s.states) = c.as_slice.ensures.value ∙ c.codes-codes.ensures in
     let wide : c.width.result ≡ (forest_of (dfa s)).width = c.width.ensures ∙ p.planned.1.wide in

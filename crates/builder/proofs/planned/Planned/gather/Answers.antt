@@ -8,7 +8,7 @@ use Rattle.builder.specs.Gathering.{lists_of, level_over}
 use Rattle.builder.specs.Lists.{byte_word, table_over}
 use Rattle.builder.proofs.Blocks.{levels_over, levels_next}
 use Rattle.builder.proofs.Collecting.{lower, too_long}
-use Rattle.builder.proofs.planned.Planned.entries.Goals as goal
+use Rattle.builder.proofs.planned.Planned.gather.Goals as goal
 
 pub loop-depth-init : goal.loop-depth-init
 loop-depth-init c = grind (arith, common_steps, (forest_stands (meant c.args.self.now.automaton)).states)

@@ -3,7 +3,7 @@ use Rattle.automaton.specs.Sound.{meant}
 use Rattle.builder.specs.Gathering.{lists_of}
 use Rattle.builder.specs.Lists.{table_over}
 use Rattle.builder.proofs.Blocks.{levels_over}
-use Rattle.builder.proofs.planned.Planned.entries.Given as goal
+use Rattle.builder.proofs.planned.Planned.gather.Given as goal
 
 -- what is gathered and the levels that are left make the table
 abbrev pub invariant-loop-depth : goal.invariant-loop-depth
