@@ -37,7 +37,7 @@ module _ (file : List ℕ) (h : Header) (is : Ok h ≡ small_answer file) where
     | inr (number, inside, short) ↦ omega (arith, mul-le a.states a.states 64 64 few few)
   ]
 
-pub file_planned : (file : List ℕ) (x : Result Header Refusal) → x ≡ small_answer file → (s : SmallAutomaton) → ReadSmall file x (Ok s) → (a : Handed) → a ≡ held s → (work work' : List ℕ) → length work ≡ 12288 → (r : Result Plan Refusal) → PlanAnswer a work work' r → FilePlan file x r
+pub file_planned : (file : List ℕ) (x : Result Header Refusal) → x ≡ small_answer file → (s : SmallAutomaton) → ReadSmall file x s (Ok tt) → (a : Handed) → a ≡ held s → (work work' : List ℕ) → length work ≡ 12288 → (r : Result Plan Refusal) → PlanAnswer a work work' r → FilePlan file x r
 file_planned file (Ok h) e s (header, same, within) a is work work' room r told =
     planned_held file h e a (is ∙ same) (subst Within (sym is) within) (omega (arith, ap (λ (x : Handed). x.states) is, s.few)) work work' room r told
 file_planned file (Err why) e s read a is work work' room r told = absurd (let z : ◌≡◌ {A = ℕ} 0 1 = cc in omega arith)
@@ -48,5 +48,9 @@ refused_text file (Ok h) e told = absurd told
 refused_text file (Err e') e told = ap (λ (y : Refusal). ended (refusal_text y)) (cc)
 
 -- what is read of a file that answers so
-pub small_told : (file : List ℕ) (h : Header) (x : Result Header Refusal) → Ok h ≡ x → (s : SmallAutomaton) → (s.header ≡ h) × (held s ≡ automaton_in file) × Within (held s) → ReadSmall file x (Ok s)
-small_told file h x e s facts = subst (λ x. ReadSmall file x (Ok s)) e facts
+pub small_told : (file : List ℕ) (h : Header) (x : Result Header Refusal) → Ok h ≡ x → (s : SmallAutomaton) → (s.header ≡ h) × (held s ≡ automaton_in file) × Within (held s) → ReadSmall file x s (Ok tt)
+small_told file h x e s facts = subst (λ x. ReadSmall file x s (Ok tt)) e facts
+
+-- what is refused where a file answers so, whatever the room then holds
+pub small_refused : (file : List ℕ) (x : Result Header Refusal) (e : Refusal) → Err e ≡ x → (s : SmallAutomaton) (r : Result (Unit {0}) Refusal) → r ≡ Err e → ReadSmall file x s r
+small_refused file x e is s r told = subst (λ y. ReadSmall file y s r) is told

@@ -33,7 +33,7 @@ module _ (file : List ℕ) (h : Header) (is : Ok h ≡ small_answer file) where
   read_small = small_read (leb (length file) 65536) h (read_answer file 16384 64) OutputTooShort is
 
 -- the summary of an automaton that was read is the summary of the file
-pub summary_is : (file : List ℕ) (x : Result Header Refusal) → x ≡ small_answer file → (s : SmallAutomaton) → ReadSmall file x (Ok s) → (a : Automaton) → handed a ≡ held s → (count : ℕ) → count ≡ marking a.classes.now → Ok (record { states = a.states; start = a.start; marking = count }) ≡ summarized file
+pub summary_is : (file : List ℕ) (x : Result Header Refusal) → x ≡ small_answer file → (s : SmallAutomaton) → ReadSmall file x s (Ok tt) → (a : Automaton) → handed a ≡ held s → (count : ℕ) → count ≡ marking a.classes.now → Ok (record { states = a.states; start = a.start; marking = count }) ≡ summarized file
 summary_is file (Ok h) e s (header, same, within) a is count counted =
     let states = ap (λ (x : Handed). x.states) is ∙ ap (λ (x : Header). x.states) header in
     let start = ap (λ (x : Handed). x.start) is ∙ ap (λ (x : Header). x.start.0) header in

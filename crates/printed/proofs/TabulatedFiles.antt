@@ -29,13 +29,13 @@ some_none : {X : Type 0} (x : X) → ◌≡◌ {A = Option X} None (Some x) → 
 some_none x e = let z : ◌≡◌ {A = ℕ} 0 1 = cc in omega arith
 
 module _ (file : List ℕ) (s : SmallAutomaton) (a : Handed) (is : a ≡ held s) where
-  pub file_refused : (x : Result Header Refusal) → ReadSmall file x (Ok s) → (work after out out' : List ℕ) → length work ≡ 12288 → 37900 ≤ length out → (why : Refusal) → BuildAnswer a work after out out' (Err why) → RoomSuffices (length out) (Err why) → (r : Result Image Refusal) → r ≡ Err why → FileImage file x r
+  pub file_refused : (x : Result Header Refusal) → ReadSmall file x s (Ok tt) → (work after out out' : List ℕ) → length work ≡ 12288 → 37900 ≤ length out → (why : Refusal) → BuildAnswer a work after out out' (Err why) → RoomSuffices (length out) (Err why) → (r : Result Image Refusal) → r ≡ Err why → FileImage file x r
   file_refused (Ok h) (header, same, within) work after out out' enough roomy why told suffices r e =
       let got = refused_for a (subst Within (sym is) within) (omega (arith, ap (λ (y : Handed). y.states) is, s.few)) work after enough (length out) roomy why _ _ (refl, refl) told.1 suffices in
       subst (FileImage file (Ok h)) (sym e) (got.0, subst (λ (y : Handed). TooMany (dfa y)) (is ∙ same) got.1)
   file_refused (Err why') read work after out out' enough roomy why told suffices r e = absurd (let z : ◌≡◌ {A = ℕ} 0 1 = cc in omega arith)
 
-  pub file_built : (x : Result Header Refusal) → ReadSmall file x (Ok s) → (bytes : List ℕ) → OverShortest (dfa a) (decode bytes) → fault bytes ≡ None → (r : Result Image Refusal) → MatchResult r (λ image. Accepted bytes image) (λ refusal. option_map Malformed (fault bytes) ≡ Some refusal) → FileImage file x r
+  pub file_built : (x : Result Header Refusal) → ReadSmall file x s (Ok tt) → (bytes : List ℕ) → OverShortest (dfa a) (decode bytes) → fault bytes ≡ None → (r : Result Image Refusal) → MatchResult r (λ image. Accepted bytes image) (λ refusal. option_map Malformed (fault bytes) ≡ Some refusal) → FileImage file x r
   file_built (Ok h) (header, same, within) bytes over none (Ok image) accepted =
       subst (λ (y : Handed). OverShortest (dfa y) (parts_of image)) (is ∙ same) (subst (λ (bs : List ℕ). OverShortest (dfa a) (decode bs)) (sym accepted.holds) over)
   file_built (Ok h) read bytes over none (Err why) refused = absurd (some_none why (ap (option_map Malformed) (sym none) ∙ refused))

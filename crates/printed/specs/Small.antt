@@ -12,6 +12,6 @@ abbrev pub held : SmallAutomaton → Handed
 held s = held_in s.header s.successors s.classes
 
 -- reading a file that answers so gives its header and the automaton that the file says, which keeps its limits; or the refusal
-abbrev pub ReadSmall : List ℕ → Result Header Refusal → Result SmallAutomaton Refusal → Type 0
-ReadSmall file (Ok h) r = MatchResult r (λ s. (s.header ≡ h) × (held s ≡ automaton_in file) × Within (held s)) (λ _. ⊥)
-ReadSmall file (Err e) r = r ≡ Err e
+abbrev pub ReadSmall : List ℕ → Result Header Refusal → SmallAutomaton → Result (Unit {0}) Refusal → Type 0
+ReadSmall file (Ok h) s r = MatchResult r (λ _. (s.header ≡ h) × (held s ≡ automaton_in file) × Within (held s)) (λ _. ⊥)
+ReadSmall file (Err e) s r = r ≡ Err e

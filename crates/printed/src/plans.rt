@@ -27,7 +27,8 @@ pub fn file_text(heap: Global, file: &[u8]) -> Result<String, AllocError>
 pub fn plan_file(file: &[u8]) -> Result<Plan, Refusal>
     ensures { FilePlan file.now (small_answer file.now) result }
 {
-    let small = SmallAutomaton::read(file)?;
+    let mut small = SmallAutomaton::new();
+    small.read(file)?;
     let mut work = [0; SMALL_WORK];
     Plan::of(small.automaton(), &mut work)
 }

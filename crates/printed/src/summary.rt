@@ -52,7 +52,8 @@ impl fmt::Display for Summary {
 pub fn summarize(file: &[u8]) -> Result<Summary, Refusal>
     ensures { result ≡ summarized file.now }
 {
-    let small = SmallAutomaton::read(file)?;
+    let mut small = SmallAutomaton::new();
+    small.read(file)?;
     let automaton = small.automaton();
     Ok(Summary {
         states: automaton.states,

@@ -32,7 +32,8 @@ fn image_of<'a>(file: &[u8], out: &'a mut [u8]) -> Result<Image<'a>, Refusal>
     requires room { 37900 ≤ length out.old }
     ensures { FileImage file.now (small_answer file.now) result }
 {
-    let small = SmallAutomaton::read(file)?;
+    let mut small = SmallAutomaton::new();
+    small.read(file)?;
     let mut work = [0; SMALL_WORK];
     let size = build(small.automaton(), &mut work, out)?;
     unpack(&out[..size])

@@ -6,27 +6,34 @@ ghost use Rattle.printed.specs.Small.{held, ReadSmall};
 
 use crate::reading::{LONGEST_FILE, SMALL_STATES, SMALL_SUCCESSORS, SmallAutomaton};
 use automaton::file::read;
-use automaton::words::Automaton;
+use automaton::words::{Automaton, Header};
 use ternary::refusal::Refusal;
 use ternary::words::StateNo;
 
 impl SmallAutomaton {
-    // The automaton in a file, or why it is refused: first for its length, then for a fault, then for its number of
-    // states.
-    pub(crate) fn read(file: &[u8]) -> Result<SmallAutomaton, Refusal>
-        ensures { ReadSmall file.now (small_answer file.now) result }
+    // Room for an automaton, with none read yet.
+    pub(crate) fn new() -> SmallAutomaton {
+        SmallAutomaton {
+            header: Header {
+                states: 0,
+                start: StateNo(0),
+            },
+            successors: [StateNo(0); SMALL_SUCCESSORS],
+            classes: [0; SMALL_STATES],
+        }
+    }
+
+    // Reads the automaton in a file into the room, which is too large to hand out; or refuses the file: first for its length,
+    // then for a fault, then for its number of states.
+    pub(crate) fn read(&mut self, file: &[u8]) -> Result<(), Refusal>
+        ensures { ReadSmall file.now (small_answer file.now) self.new result }
     {
         if file.len() as u64 > LONGEST_FILE {
             return Err(Refusal::OutputTooShort);
         }
-        let mut successors = [StateNo(0); SMALL_SUCCESSORS];
-        let mut classes = [0; SMALL_STATES];
-        let header = read(file, &mut successors, &mut classes)?;
-        Ok(SmallAutomaton {
-            header,
-            successors,
-            classes,
-        })
+        let header = read(file, &mut self.successors, &mut self.classes)?;
+        self.header = header;
+        Ok(())
     }
 
     // The automaton, as it is handed to calls.

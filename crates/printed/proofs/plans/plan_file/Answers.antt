@@ -5,4 +5,4 @@ use Rattle.printed.proofs.plans.plan_file.Goals as goal
 
 pub returns : goal.returns
 returns c =
-    file_planned c.args.file.now _ refl c.in_ok-small.small c.in_ok-small.ensures _ c.automaton.ensures (replicate 12288 0) c.of.new.work (length-replicate {A = ℕ} 12288 0) c.of.result c.of.ensures.answer
+    file_planned c.args.file.now _ refl c.read.new.self c.in_ok-read.ensures _ c.automaton.ensures (replicate 12288 0) c.of.new.work (length-replicate {A = ℕ} 12288 0) c.of.result c.of.ensures.answer
