@@ -1,5 +1,5 @@
 -- Words whose decisions are told in another way, as numbers for states: a shortest list stays one. Assumes nothing.
-use Rattle.std.proofs.Common.{◌≡◌, ℕ, ◌<◌, Bool, true, false, cond, List, [], ◌∷◌, map, Some, None, Option, refl, ap, subst, arith}
+use Rattle.std.proofs.Common.{◌≡◌, ℕ, ◌<◌, Bool, true, false, cond, List, [], ◌∷◌, map, Some, None, Option, refl, sym, ap, subst, arith}
 use lib.ListN.{length-map}
 use Rattle.std.specs.Option.{option_map}
 use Rattle.std.specs.List.{AllByRecursion}
@@ -42,4 +42,11 @@ shortest_redecided f g row row' d to from ws s = record {
   least = λ others rule.
       let k = s.least (map (redecided g) others) (rule_redecided g row' row d others from rule) in
       omega (arith, k, length-map ws (redecided f), length-map others (redecided g));
+}
+
+-- a shortest list is one for every telling of the same deferrable bytes
+pub shortest-deferrable : {D : Type 0} (row : ℕ → D) (d d' : ℕ → Bool) (ws : List (PrefixWord D)) → ((byte : ℕ) → byte < 256 → d byte ≡ d' byte) → Shortest ws row d → Shortest ws row d'
+shortest-deferrable row d d' ws flags s = record {
+  meets = λ byte h. subst (λ (b : Bool). Served (row byte) b (first ws byte)) (flags byte h) (s.meets byte h);
+  least = λ others rule. s.least others (λ byte h. subst (λ (b : Bool). Served (row byte) b (first others byte)) (sym (flags byte h)) (rule byte h));
 }
