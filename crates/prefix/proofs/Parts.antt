@@ -1,6 +1,8 @@
 -- Parts of a list that grows, and what two parts have in common. Assumes nothing.
 use Rattle.std.proofs.Common.{◌≡◌, ℕ, suc, ◌+◌, ◌-◌, ◌<◌, ◌≤◌, Bool, true, false, cond, eqb, List, [], ◌∷◌, ◌++◌, length, get_or, take, drop, slice_range, sym, refl, ap, ◌∙◌, append_assoc, add-zero, arith, length-append, length-drop}
 use Rattle.std.proofs.lemmas.List.{take_more, get_or-drop, get_or-take, length-take-le, drop-append-le, take-append-le, drop_at, take_all, get_or_append_left}
+use Rattle.std.proofs.lemmas.Bool.Decides.{nat_tests}
+use Rattle.std.specs.List.{list_any}
 use Rattle.prefix.specs.Tree.{has, common}
 use Rattle.prefix.specs.declared.sets.Part.{Part}
 use Rattle.prefix.specs.Parts.{part_of, Inside}
@@ -31,6 +33,14 @@ module _ {X : Type 0} where
   pub range_last : (xs ys : List X) → slice_range (xs ++ ys) (length xs) (length (xs ++ ys)) ≡ ys
   range_last xs ys =
       ap (take (length (xs ++ ys) - length xs)) (drop_at xs ys (length xs) refl) ∙ take_all (length (xs ++ ys) - length xs) ys (omega (arith, length-append xs ys))
+
+eqb_flip : (a b : ℕ) → eqb a b ≡ eqb b a
+eqb_flip a b = grind (arith, nat_tests)
+
+-- the test of the code and that of the definitions
+pub has-from_any : (x : ℕ) (ys : List ℕ) → list_any (λ y. eqb y x) ys ≡ has eqb x ys
+has-from_any x [] = refl
+has-from_any x (y ∷ ys) = cc (eqb_flip y x, has-from_any x ys)
 
 pub common≤ : (xs ys : List ℕ) → length (common eqb xs ys) ≤ length xs
 common≤ [] ys = omega arith

@@ -25,16 +25,15 @@ impl Part {
     }
 }
 
-// Whether `state` is one of the states.
+// Whether `state` is one of the states. Most nodes have one candidate or two, for which the library's search would be a call.
 pub(crate) fn contains(states: &[u16], state: u16) -> bool
     ensures { result ≡ has nat_eq state states.now }
 {
-    for one in states {
-        if *one == state {
-            return true;
-        }
+    match states {
+        [one] => *one == state,
+        [one, two] => *one == state || *two == state,
+        _ => states.contains(&state),
     }
-    false
 }
 
 // Appends the states of `low` that are among those of `high` too.
